@@ -1,0 +1,184 @@
+-- What one contour adds to a path: the walk back and the contour's steps make pairs, and its steps have its vertices. Assumes nothing.
+use mathlib.Core.Path.{_≡_, refl, sym, ap, _∙_}
+use mathlib.Core.Bool.{Bool, true, false}
+use mathlib.Core.List.{List, [], _∷_, _++_, map, append-assoc}
+use Prim.Native.Nat.{ℕ, suc, _+_, _-_, _≤_, _<_}
+use native.Mathlib.Nat.{zero-add, add-zero, add-suc}
+use native.Mathlib.Omega.{arith}
+use lib.Dec.{eqb}
+use lib.ListN.{length}
+use lib.Seq.{append-snoc}
+use borrow.Author.Tests.{eqb-true}
+use Rattle.rules.specs.Tools.{pick, upFrom, downTo}
+use Rattle.rules.specs.HandedOver.{Plate, Contour}
+use Rattle.rules.specs.Start.{Oriented}
+use Rattle.rules.specs.RetraceAndMarks.{startKind, jumpKind, Step, land, cutUp, cutDown, backStep, vertexOf, walkTo, walkBack, forward, backward, returnTo, bothWays, emit, begin}
+use Rattle.rules.specs.PathStatement.{IsContour, Of, OfContour}
+use Rattle.path.specs.Lists.{All, all-append, all-map, all-upFrom, all-downTo}
+use Rattle.path.specs.Pairs.{length-snoc, Follows, Chain, chain-append, Divided}
+use Rattle.path.specs.Runs.{Ends, ends-snoc, Segments, ups-chain, downs-chain, ups-at, ups-length, ups-end, backTo, Stand, backs-chain, backs-end}
+
+-- ---- the walk back to place h
+
+module _ (path : List Step) (h : ℕ) (l : h < length path) where
+  walk-start : Ends path (vertexOf path (h + (length path - 1 - h)))
+  walk-start =
+      let e : length path - 1 ≡ h + (length path - 1 - h) = omega arith in record { some = omega arith; last = ap (vertexOf path) e }
+
+  pub walk-chain : (p : Plate) → Chain p path (walkBack path h)
+  unfolding walkBack walkTo
+  walk-chain p =
+      backs-chain p path (vertexOf path) (λ i. i) h (length path - 1 - h)
+      (record { next = λ i. refl; held = λ i m. refl; last = omega arith }) walk-start
+
+  pub walk-end : Ends (path ++ walkBack path h) (vertexOf path h)
+  unfolding walkBack walkTo
+  walk-end = backs-end path (vertexOf path) (λ i. i) h (length path - 1 - h) walk-start
+
+-- ---- the contour's own steps
+
+module _ (p : Plate) (c : Contour) (i : IsContour p c) (path : List Step) where
+  whole : Segments p c (c .first) (c .last)
+  whole = record { of = i; low = omega arith; high = omega arith }
+
+  -- what comes after the landing: upward, and downward
+  forward-rest : (kind : ℕ) → Chain p (path ++ land kind (c .first) ∷ []) (map cutUp (upFrom (c .first) (c .last)))
+  unfolding land
+  forward-rest kind = ups-chain p c _ (c .first) (c .last) whole (ends-snoc path (land kind (c .first)))
+
+  backward-rest : (kind : ℕ) → Chain p (path ++ land kind (c .first + c .last) ∷ []) (map cutDown (downTo (c .first) (c .last)))
+  unfolding land
+  backward-rest kind = downs-chain p c _ (c .first) (c .last) whole (ends-snoc path (land kind (c .first + c .last)))
+
+-- both ways from an entry e: landed at it, risen to the last vertex, returned to it
+module _ (p : Plate) (c : Contour) (i : IsContour p c) (path : List Step) (e : ℕ) (h : e ≤ c .last) where
+  a : ℕ
+  a = c .first + e
+
+  n : ℕ
+  n = c .last - e
+
+  up : List Step
+  up = map cutUp (upFrom a n)
+
+  landed : List Step
+  landed = path ++ land jumpKind a ∷ []
+
+  risen : List Step
+  risen = landed ++ up
+
+  returned : List Step
+  returned = map (backTo (λ k. a + k) (λ k. length path + k)) (downTo 0 n)
+
+  landed-end : Ends landed a
+  unfolding land landed
+  landed-end = ends-snoc path (land jumpKind a)
+
+  landed-length : length landed ≡ suc (length path)
+  unfolding landed
+  landed-length = length-snoc path (land jumpKind a)
+
+  -- the vertices from e on stand from the landing on
+  risen-stand : Stand risen (λ k. a + k) (λ k. length path + k) (0 + n)
+  unfolding risen up
+  risen-stand =
+      record {
+        next = λ k. add-suc (length path) k;
+        held = λ k l. rw (← place k) (ups-at landed a n k landed-end (omega arith));
+        last = omega (arith, ups-length landed a n, landed-length);
+      }
+    where
+      place : (k : ℕ) → length landed - 1 + k ≡ length path + k
+      place k = omega (arith, landed-length)
+
+  risen-end : Ends risen (a + (0 + n))
+  unfolding risen up
+  risen-end = rw zero-add (ups-end landed a n landed-end)
+
+  returned-end : Ends (risen ++ returned) (c .first + e)
+  unfolding returned a
+  returned-end = rw add-zero at (backs-end risen (λ k. a + k) (λ k. length path + k) 0 n risen-end)
+
+  both-chain : Follows p path (land jumpKind (c .first + e)) → Chain p path (bothWays c e (length path))
+  unfolding bothWays returnTo a n up landed risen returned
+  both-chain j =
+      chain-append p path ((land jumpKind a ∷ up) ++ returned) (map cutDown (downTo (c .first) e))
+      (chain-append p path (land jumpKind a ∷ up) returned
+      (j, ups-chain p c landed a n (record { of = i; low = omega arith; high = omega arith }) landed-end)
+      (rw (append-snoc path (land jumpKind a) up) at (backs-chain p risen (λ k. a + k) (λ k. length path + k) 0 n risen-stand risen-end)))
+      (rw same (downs-chain p c (risen ++ returned) (c .first) e (record { of = i; low = omega arith; high = omega arith }) returned-end))
+    where
+      same : path ++ ((land jumpKind a ∷ up) ++ returned) ≡ risen ++ returned
+      same =
+          sym (append-assoc path (land jumpKind a ∷ up) returned)
+          ∙ ap (λ (l : List Step). l ++ returned) (sym (append-snoc path (land jumpKind a) up))
+
+  -- where the landing makes a pair, all steps do
+  pub emit-chain : Follows p path (land jumpKind (c .first + e)) → Chain p path (emit c e (length path))
+  unfolding emit pick forward backward
+  emit-chain j = go (eqb e 0) refl (eqb e (c .last)) refl
+    where
+      go : (s : Bool) → eqb e 0 ≡ s → (t : Bool) → eqb e (c .last) ≡ t →
+          Chain p path (pick s (forward jumpKind c) (pick t (backward jumpKind c) (bothWays c e (length path))))
+      go true x t y =
+          let z : c .first + e ≡ c .first = omega (arith, eqb-true e 0 x) in (rw z at j, forward-rest p c i path jumpKind)
+      go false x true y =
+          let z : c .first + e ≡ c .first + c .last = omega (arith, eqb-true e (c .last) y) in (rw z at j, backward-rest p c i path jumpKind)
+      go false x false y = both-chain j
+
+-- ---- whose vertices they have
+
+abbrev pub StepOf : Contour → Step → Type 0
+StepOf c s = Of c (s .vertex)
+
+up-of : (c : Contour) (f : ℕ → Step) (a n : ℕ) → ((i : ℕ) → a ≤ i → i < a + n → StepOf c (f i)) → All (StepOf c) (map f (upFrom a n))
+up-of c f a n h = all-map (StepOf c) f (upFrom a n) (all-upFrom (λ i. StepOf c (f i)) a n h)
+
+down-of : (c : Contour) (f : ℕ → Step) (a n : ℕ) → ((i : ℕ) → a ≤ i → i < a + n → StepOf c (f i)) → All (StepOf c) (map f (downTo a n))
+down-of c f a n h = all-map (StepOf c) f (downTo a n) (all-downTo (λ i. StepOf c (f i)) a n h)
+
+forward-of : (c : Contour) (kind : ℕ) → All (StepOf c) (forward kind c)
+unfolding forward land cutUp
+forward-of c kind = ((omega arith, omega arith), up-of c cutUp (c .first) (c .last) (λ i x y. (omega arith, omega arith)))
+
+backward-of : (c : Contour) (kind : ℕ) → All (StepOf c) (backward kind c)
+unfolding backward land cutDown
+backward-of c kind = ((omega arith, omega arith), down-of c cutDown (c .first) (c .last) (λ i x y. (omega arith, omega arith)))
+
+both-of : (c : Contour) (e b : ℕ) → e ≤ c .last → All (StepOf c) (bothWays c e b)
+unfolding bothWays land cutUp cutDown returnTo backStep
+both-of c e b h =
+    let a = c .first + e in
+    let n = c .last - e in
+    all-append (StepOf c) ((land jumpKind a ∷ map cutUp (upFrom a n)) ++ map (returnTo a b) (downTo 0 n)) (map cutDown (downTo (c .first) e))
+    (all-append (StepOf c) (land jumpKind a ∷ map cutUp (upFrom a n)) (map (returnTo a b) (downTo 0 n))
+    ((omega arith, omega arith), up-of c cutUp a n (λ i x y. (omega arith, omega arith)))
+    (down-of c (returnTo a b) 0 n (λ i x y. (omega arith, omega arith))))
+    (down-of c cutDown (c .first) e (λ i x y. (omega arith, omega arith)))
+
+pub emit-of : (c : Contour) (e b : ℕ) → e ≤ c .last → All (StepOf c) (emit c e b)
+unfolding emit pick
+emit-of c e b h = go (eqb e 0) (eqb e (c .last))
+  where
+    go : (s t : Bool) → All (StepOf c) (pick s (forward jumpKind c) (pick t (backward jumpKind c) (bothWays c e b)))
+    go true t = forward-of c jumpKind
+    go false true = backward-of c jumpKind
+    go false false = both-of c e b h
+
+-- ---- the start
+
+pub begin-of : (s : Oriented) → All (StepOf (s .contour)) (begin s)
+unfolding begin pick
+begin-of s = go (s .reversed)
+  where
+    go : (b : Bool) → All (StepOf (s .contour)) (pick b (backward startKind (s .contour)) (forward startKind (s .contour)))
+    go true = backward-of (s .contour) startKind
+    go false = forward-of (s .contour) startKind
+
+pub begin-divided : (p : Plate) (s : Oriented) → IsContour p (s .contour) → Divided p (begin s)
+unfolding begin pick forward backward land OfContour
+begin-divided p s i = go (s .reversed)
+  where
+    go : (b : Bool) → Divided p (pick b (backward startKind (s .contour)) (forward startKind (s .contour)))
+    go true = (record { kind = refl; named = refl; of = (s .contour, i, (omega arith, omega arith)) }, backward-rest p (s .contour) i [] startKind)
+    go false = (record { kind = refl; named = refl; of = (s .contour, i, (omega arith, omega arith)) }, forward-rest p (s .contour) i [] startKind)

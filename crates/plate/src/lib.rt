@@ -1,0 +1,69 @@
+// The input checks that all calls share: refusals 1 to 4, in their order.
+ghost use mathlib.Core.Path.{_≡_};
+ghost use Prim.Native.Nat.{_≤_};
+ghost use lib.ListN.{length};
+ghost use Rattle.rules.specs.Tools.{sum};
+ghost use Rattle.rules.specs.HandedOver.{gives, inRange, plateLimit, firstOff, checked};
+ghost use Rattle.plate.specs.Answer.{checkedAnswer};
+use rules::Refusal;
+
+// The number of points, or why the plate is refused.
+pub enum Checked {
+    Sound(u32),
+    Unsound(Refusal),
+}
+
+// Whether x is a number of magnitude at most limit.
+pub fn in_range(limit: f64, x: f64) -> bool
+    ensures { λ r. ⌜ r ≡ inRange limit x ⌝ }
+{
+    -limit <= x && x <= limit
+}
+
+// The sum of the lengths: 4,096 of them cannot wrap a u64.
+fn point_count(lengths: &[u32]) -> u64
+    requires { ⌜ length (now lengths) ≤ 4096 ⌝ }
+    ensures { λ r. ⌜ r ≡ sum (now (lengths .entry)) ⌝ }
+{
+    let mut total: u64 = 0;
+    let mut i: usize = 0;
+    while i < lengths.len() {
+        total += lengths[i] as u64;
+        i += 1;
+    }
+    total
+}
+
+// The place of the first coordinate that is off the plate, or the slice's length.
+fn first_off(points: &[f64]) -> usize
+    ensures { λ r. ⌜ r ≡ firstOff plateLimit 0 (now (points .entry)) ⌝ }
+{
+    let mut i: usize = 0;
+    while i < points.len() {
+        if !in_range(1000000.0, points[i]) {
+            return i;
+        }
+        i += 1;
+    }
+    i
+}
+
+pub fn check(points: &[f64], lengths: &[u32]) -> Checked
+    ensures { λ r. ⌜ checkedAnswer r ≡ checked (now (points .entry)) (now (lengths .entry)) (gives (sum (now (lengths .entry)))) ⌝ }
+{
+    if 4096 < lengths.len() {
+        return Checked::Unsound(Refusal::TooManyContours);
+    }
+    let total = point_count(lengths);
+    if 65536 < total {
+        return Checked::Unsound(Refusal::TooManyPoints);
+    }
+    if points.len() as u64 != 2 * total {
+        return Checked::Unsound(Refusal::Miscounted);
+    }
+    let k = first_off(points);
+    if k < points.len() {
+        return Checked::Unsound(Refusal::OffThePlate(k as u32));
+    }
+    Checked::Sound(total as u32)
+}

@@ -1,0 +1,15 @@
+-- `point::bound::is_beyond` meets its contract. Assumes nothing.
+use borrow.Author.Needs.{needs}
+use Rattle.rules.specs.Distances.{distanceSquared}
+use Rattle.point.proofs.bound.is_beyond.Statement.{statement}
+use Rattle.point.proofs.bound.is_beyond.Tie as tie
+
+is-sum-above-requires : tie.Need-is-sum-above-requires
+is-sum-above-requires c κs = search needs
+
+returns : tie.Need-returns
+unfolding distanceSquared
+returns c = c .is-sum-above .ensures
+
+pub is-beyond-spec : {M : Type 1} → statement M
+is-beyond-spec = tie.close (tie.spec is-sum-above-requires returns)

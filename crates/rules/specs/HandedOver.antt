@@ -1,0 +1,172 @@
+-- "What is handed over" of document 01: points and contours, and the refusals with their order and their places. Definitions only.
+use mathlib.Core.Path.{_≡_}
+use Prim.Native.Nat.{ℕ, zero, suc, _+_, _*_, _/_, min}
+use mathlib.Core.Bool.{Bool, true, false, not, _&&_}
+use mathlib.Core.List.{List, [], _∷_, _++_}
+use lib.Dec.{T, ltb, eqb}
+use lib.ListN.{length, take, drop, getD}
+use lib.IntN.{pos}
+use lib.Ieee.{Float, nan, fin, neg, le}
+use Rattle.rules.specs.Tools.{pick, sum}
+use Rattle.rules.specs.declared.Point.{Point}
+use Rattle.rules.specs.declared.StartPointStrategy.{StartPointStrategy}
+use Rattle.rules.specs.declared.Counts.{Counts}
+use Rattle.rules.specs.declared.Refusal.{Refusal}
+use Rattle.rules.specs.declared.Refusal.the-variants.{TooManyContours, TooManyPoints, Miscounted, OffThePlate, WorkShort, Full, Blank}
+use Rattle.rules.specs.declared.DistanceAnswer.{DistanceAnswer}
+use Rattle.rules.specs.declared.DistanceAnswer.the-variants.{Distances, NoDistances}
+use Rattle.rules.specs.declared.StartAnswer.{StartAnswer}
+use Rattle.rules.specs.declared.StartAnswer.the-variants.{Start, NoStart}
+use Rattle.rules.specs.declared.OrderAnswer.{OrderAnswer}
+use Rattle.rules.specs.declared.OrderAnswer.the-variants.{Entries, NoOrder}
+use Rattle.rules.specs.declared.StraightAnswer.{StraightAnswer}
+use Rattle.rules.specs.declared.StraightAnswer.the-variants.{Points, NoStraight}
+use Rattle.rules.specs.declared.RetraceAnswer.{RetraceAnswer}
+use Rattle.rules.specs.declared.RetraceAnswer.the-variants.{Joined, NotJoined}
+
+-- ---- points and contours
+
+-- M is the length of `lengths`, and P is their sum.
+pub record Plate : Type 0 where
+  -- horizontal then vertical, each contour's points following the last's
+  pub points : List Float
+  pub lengths : List ℕ
+  pub width : ℕ
+  pub height : ℕ
+  pub strategy : StartPointStrategy
+
+unfoldable pub plate : List Float → List ℕ → ℕ → ℕ → StartPointStrategy → Plate
+plate xs ns w h s = record { points = xs; lengths = ns; width = w; height = h; strategy = s }
+
+-- the point at a place of an f64 slice: of the points, that of a vertex number
+unfoldable pub at : List Float → ℕ → Point
+at xs v = record { x = getD xs (2 * v) nan; y = getD xs (2 * v + 1) nan }
+
+-- a contour that is not skipped: its number, skipped ones counted, the vertex number of its vertex 0, and its last vertex, counted from 0 within it
+pub record Contour : Type 0 where
+  pub number : ℕ
+  pub first : ℕ
+  pub last : ℕ
+
+-- those of the lengths from contour j and vertex v on that are not zero
+unfoldable pub contoursFrom : ℕ → ℕ → List ℕ → List Contour
+contoursFrom j v [] = []
+contoursFrom j v (zero ∷ ns) = contoursFrom (suc j) v ns
+contoursFrom j v (suc n ∷ ns) = record { number = j; first = v; last = n } ∷ contoursFrom (suc j) (v + suc n) ns
+
+unfoldable pub contours : Plate → List Contour
+contours p = contoursFrom 0 0 (p .lengths)
+
+-- vertex i of a contour, counted from 0 within it
+unfoldable pub vertexAt : Plate → Contour → ℕ → Point
+vertexAt p c i = at (p .points) (c .first + i)
+
+-- ---- C, by the lengths of the output slices
+
+unfoldable pub orderRoom : ℕ → ℕ
+orderRoom order = order / 2
+
+unfoldable pub straightRoom : ℕ → ℕ
+straightRoom path = min (path / 2) 1048576
+
+unfoldable pub retraceRoom : ℕ → ℕ → ℕ
+retraceRoom path marks = min (min (path / 2) (marks / 2)) 1048576
+
+-- ---- answers
+
+-- a result, or a refusal's number and place
+pub data Answer (A : Type 0) : Type 0 where
+  gives : A → Answer A
+  refuses : ℕ → ℕ → Answer A
+
+-- the paper's number and place of each refusal
+unfoldable pub refusal : {A : Type 0} → Refusal → Answer A
+refusal TooManyContours = refuses 1 0
+refusal TooManyPoints = refuses 2 0
+refusal Miscounted = refuses 3 0
+refusal (OffThePlate place) = refuses 4 place
+refusal (WorkShort place) = refuses 5 place
+refusal (Full place) = refuses 6 place
+refusal Blank = refuses 7 0
+
+-- the paper's values for each case of an answer
+unfoldable pub distanceAnswer : DistanceAnswer → Answer (Float × Float)
+distanceAnswer (Distances squared plain) = gives (squared, plain)
+distanceAnswer (NoDistances r) = refusal r
+
+unfoldable pub startAnswer : StartAnswer → Answer (ℕ × Bool)
+startAnswer (Start contour reversed) = gives (contour, reversed)
+startAnswer (NoStart r) = refusal r
+
+unfoldable pub orderAnswer : OrderAnswer → Answer ℕ
+orderAnswer (Entries n) = gives n
+orderAnswer (NoOrder r) = refusal r
+
+unfoldable pub straightAnswer : StraightAnswer → Answer ℕ
+straightAnswer (Points n) = gives n
+straightAnswer (NoStraight r) = refusal r
+
+unfoldable pub retraceAnswer : RetraceAnswer → Answer Counts
+retraceAnswer (Joined c) = gives c
+retraceAnswer (NotJoined r) = refusal r
+
+-- ---- conditions
+
+-- x is a number of magnitude at most `limit`: a comparison with a NaN fails
+unfoldable pub inRange : Float → Float → Bool
+inRange limit x = le (neg limit) x && le x limit
+
+-- 1,000,000 = 15625 × 2^6, and 2,147,483,648 = 2^31 for the distance call
+unfoldable pub plateLimit : Float
+plateLimit = fin false 15625 (pos 6)
+
+unfoldable pub distanceLimit : Float
+distanceLimit = fin false 1 (pos 31)
+
+-- the place of the first coordinate out of range, counted from i, or the place after the last
+unfoldable pub firstOff : Float → ℕ → List Float → ℕ
+firstOff limit i [] = i
+firstOff limit i (x ∷ xs) = let rest = firstOff limit (suc i) xs in pick (inRange limit x) rest i
+
+-- the refusal with this number and place where its condition holds, else what the later conditions say
+unfoldable pub refuseIf : {A : Type 0} → Bool → ℕ → ℕ → Answer A → Answer A
+refuseIf true number place later = refuses number place
+refuseIf false number place later = later
+
+-- refusals 1 to 4, of points and lengths
+unfoldable pub checked : {A : Type 0} → List Float → List ℕ → Answer A → Answer A
+checked xs ns later =
+    refuseIf (ltb 4096 (length ns)) 1 0
+    (refuseIf (ltb 65536 (sum ns)) 2 0
+    (refuseIf (not (eqb (length xs) (2 * sum ns))) 3 0
+    (refuseIf (ltb (firstOff plateLimit 0 xs) (length xs)) 4 (firstOff plateLimit 0 xs) later)))
+
+-- refusal 5: work and distances are the lengths of the u32 and the f64 work slice
+unfoldable pub orderWork : {A : Type 0} → Plate → ℕ → Answer A → Answer A
+orderWork p work later = refuseIf (ltb work (length (p .lengths))) 5 0 later
+
+unfoldable pub retraceWork : {A : Type 0} → Plate → ℕ → ℕ → ℕ → Answer A → Answer A
+retraceWork p c work distances later =
+    refuseIf (ltb work (c + 4 * sum (p .lengths) + 8 * length (p .lengths) + 16384)) 5 0
+    (refuseIf (ltb distances (length (p .lengths))) 5 1 later)
+
+-- refusal 6: n points or entries where C fit
+unfoldable pub fitted : {A : Type 0} → ℕ → ℕ → A → Answer A
+fitted c n result = refuseIf (ltb c n) 6 c (gives result)
+
+-- ---- slices afterwards
+
+-- `new` written over the start of a slice
+unfoldable pub over : {A : Type 0} → List A → List A → List A
+over new slice = new ++ drop (length new) slice
+
+-- An output slice of two numbers for each point or entry: a result is written whole, refusal 6 leaves the first C of it,
+-- any other refusal alters nothing; and nothing beyond is altered.
+unfoldable pub after : {A B : Type 0} → Answer A → ℕ → List B → List B → List B
+after (gives a) c result slice = over result slice
+after (refuses number place) c result slice = pick (eqb number 6) (over (take (2 * c) result) slice) slice
+
+-- A work slice: its content is free after a result and after refusal 6, and unaltered otherwise.
+unfoldable pub WorkKept : {A B : Type 0} → Answer A → List B → List B → Type 0
+WorkKept (gives a) before now = Unit {0}
+WorkKept (refuses number place) before now = T (not (eqb number 6)) → now ≡ before

@@ -1,0 +1,11 @@
+pub mod Tools
+pub mod HandedOver
+pub mod Distances
+pub mod Start
+pub mod GridAndNearest
+pub mod SamplesAndCache
+pub mod RetraceAndMarks
+pub mod OrderAndStraight
+pub mod Calls
+pub mod PathStatement
+pub mod MarkedPlates

@@ -1,0 +1,604 @@
+-- The marked plates of document 01, as rows of one table that one theorem covers. Rows A to I come first. The rows after them have no letter; each tells a
+-- mistake apart, which its comment names, and which no earlier row refuses.
+-- None of the expected values comes from the definitions. Paths, orders, starts, distances and grids are what the Rust gives for these plates, its functions
+-- unchanged; marks are those of a separate transcription of it that writes marks too and has the same paths; counts are the numbers of those marks;
+-- refusals, places and what a slice then holds are document 01's, worked out by hand.
+use mathlib.Core.Path.{_≡_, refl}
+use Prim.Native.Nat.{ℕ, zero, suc, _+_, _*_, _^_}
+use mathlib.Core.Bool.{Bool, true, false}
+use mathlib.Core.List.{List, [], _∷_, _++_, map}
+use lib.IntN.{pos, negsuc}
+use lib.ListN.{length, replicate}
+use lib.Ieee.{Float, nan, inf, fin, binary64, round, size, units, odd, neg, add, sub, mul, div, rem, lt, eq, le, ofInt, toUnsigned}
+use Rattle.rules.specs.Tools.{pick, sum, without, leads, winner, lesser, greater}
+use Rattle.rules.specs.HandedOver.{Plate, plate, at, contoursFrom, contours, vertexAt, orderRoom, straightRoom, retraceRoom}
+use Rattle.rules.specs.HandedOver.{Answer, gives, refuses, inRange, plateLimit, distanceLimit, firstOff, refuseIf, checked, orderWork, retraceWork}
+use Rattle.rules.specs.HandedOver.{fitted, over, after}
+use Rattle.rules.specs.Distances.{mulAdd, rootBy, floorRoot, roundRoot, sqrt, distanceSquared, distance}
+use Rattle.rules.specs.Start.{half, centre, oriented, ends, beats, start}
+use Rattle.rules.specs.GridAndNearest.{widen, boxFrom, box, cellSize, ceiling, cellsAlong, gridOf, indexAlong, cellOf, square, within, onBorder}
+use Rattle.rules.specs.GridAndNearest.{seenFrom, found, wins, nearer, scanRing, bound, beyond, scanFrom, nearest}
+use Rattle.rules.specs.SamplesAndCache.{sampledAfter, sampled, cellNumber, cellAt, sampleAt, samplesFrom, samples, cache, cached, querySample, seeded}
+use Rattle.rules.specs.SamplesAndCache.{met, listed, listedRow, listedSquare, listedAround, cellsAround, queryIn, updatedIn, updated}
+use Rattle.rules.specs.SamplesAndCache.{waiting, askPath, keep, seed, update}
+use Rattle.rules.specs.RetraceAndMarks.{land, cutUp, cutDown, backStep, stepAt, vertexOf, walkTo, walkBack, forward as forwardSteps, backward}
+use Rattle.rules.specs.RetraceAndMarks.{returnTo, bothWays, emit, begin, pathPoints, closer, choose, numberOf, placeIn, entered, joinAll}
+use Rattle.rules.specs.RetraceAndMarks.{retraceFrom, retraceOf, retrace, coordinates, marks, countMarks, marksOf}
+use Rattle.rules.specs.OrderAndStraight.{lastEnd, nearerSense, nearerEnd, contourNumber, orderAfter, orderFrom, orderOf, order, entries, straight}
+use Rattle.rules.specs.Calls.{distanceCall, startOr, startCall, orderCall, straightCall, counts, vertices, retraceCall}
+use Rattle.rules.specs.declared.Point.{Point}
+use Rattle.rules.specs.declared.Counts.{Counts}
+use Rattle.rules.specs.declared.StartPointStrategy.{StartPointStrategy}
+use Rattle.rules.specs.declared.StartPointStrategy.the-variants.{Outside, Inside}
+
+infixr 2 _∣_
+infix 90 _⇒_
+
+-- ---- numbers
+
+-- n, n / 10^k and n / 2^k, each as the nearest float
+whole : ℕ → Float
+whole n = ofInt binary64 (pos n)
+
+decimal : ℕ → ℕ → Float
+decimal n k = round binary64 false n (10 ^ k)
+
+binary : ℕ → ℕ → Float
+binary n k = round binary64 false n (2 ^ k)
+
+tenths : ℕ → Float
+tenths n = decimal n 1
+
+hundredths : ℕ → Float
+hundredths n = decimal n 2
+
+thousandths : ℕ → Float
+thousandths n = decimal n 3
+
+sixteenths : ℕ → Float
+sixteenths n = binary n 4
+
+sixtyFourths : ℕ → Float
+sixtyFourths n = binary n 6
+
+same : {A : Type 0} → A → A
+same x = x
+
+-- a number, and a float, itself: computed, so that two that differ are told apart at once
+numeral : ℕ → ℕ
+numeral zero = zero
+numeral (suc n) = suc n
+
+computed : Float → Float
+computed nan = nan
+computed (inf s) = inf s
+computed (fin s m (pos k)) = fin s (numeral m) (pos (numeral k))
+computed (fin s m (negsuc k)) = fin s (numeral m) (negsuc (numeral k))
+
+-- ---- plates and slices
+
+-- contours between bars
+_∣_ : {A : Type 0} → List A → List (List A) → List (List A)
+c ∣ cs = c ∷ cs
+
+-- points (x, y), in some unit, as an f64 slice has them
+along : {A : Type 0} → (A → Float) → List (A × A) → List Float
+along unit [] = []
+along unit (p ∷ ps) = unit (p .0) ∷ unit (p .1) ∷ along unit ps
+
+contourPoints : {A : Type 0} → (A → Float) → List (List (A × A)) → List Float
+contourPoints unit [] = []
+contourPoints unit (c ∷ cs) = along unit c ++ contourPoints unit cs
+
+-- contours drawn in some unit, width by height
+drawn : {A : Type 0} → (A → Float) → List (List (A × A)) → ℕ → ℕ → StartPointStrategy → Plate
+drawn unit cs w h s = plate (contourPoints unit cs) (map length cs) w h s
+
+-- points and lengths as they are handed over, right or wrong
+slices : List ℕ → List ℕ → Plate
+slices xs ns = plate (map whole xs) ns 0 0 Outside
+
+point : Float → Float → Point
+point a b = record { x = a; y = b }
+
+-- marks (kind, reference) and order entries (contour, 1 if reversed), as a u32 slice has them
+pairs : List (ℕ × ℕ) → List ℕ
+pairs [] = []
+pairs (p ∷ ps) = p .0 ∷ p .1 ∷ pairs ps
+
+-- what an output slice of n numbers holds before a call
+unwritten : ℕ → List ℕ
+unwritten n = replicate n 777
+
+unwrittenPath : ℕ → List Float
+unwrittenPath n = replicate n (whole 777)
+
+forward : Bool
+forward = false
+
+reversed : Bool
+reversed = true
+
+-- path points, cuts, back-steps, jumps
+joined : ℕ → ℕ → ℕ → ℕ → Answer Counts
+joined n s b j = gives (record { points = n; cuts = s; «back_steps» = b; jumps = j })
+
+-- ---- rows
+
+-- what is asked; slices by how many numbers they have
+pub data Call : Type 0 where
+  distanceOf : Point → Point → Call
+  -- not a call: the squared distance that comes of rounding both products, then their sum
+  twoRoundings : Point → Point → Call
+  startOn : Plate → Call
+  orderOn : Plate → (slice work : ℕ) → Call
+  straightOn : Plate → (path work : ℕ) → Call
+  retraceOn : Plate → (path marks work distances : ℕ) → Call
+  -- not a call: C, for output slices of so many numbers
+  roomIn : ℕ → Call
+  -- not a call: the grid of a plate
+  gridOn : Plate → Call
+
+-- the answer, and the output slices afterwards
+pub data Reply : Type 0 where
+  distances : Answer (Float × Float) → Reply
+  squared : Float → Reply
+  starts : Answer (ℕ × Bool) → Reply
+  ordered : Answer ℕ → List ℕ → Reply
+  straightened : Answer ℕ → List Float → Reply
+  retraced : Answer Counts → List Float → List ℕ → Reply
+  -- C for order, straight and retrace
+  room : ℕ → ℕ → ℕ → Reply
+  -- cell size, columns and rows
+  grid : Float → ℕ → ℕ → Reply
+
+pub record Row : Type 0 where
+  pub call : Call
+  pub reply : Reply
+
+_⇒_ : Call → Reply → Row
+c ⇒ r = record { call = c; reply = r }
+
+-- the calls with room for C points or entries, and work enough
+orderIn : ℕ → Plate → Call
+orderIn c p = orderOn p (2 * c) 100000
+
+straightIn : ℕ → Plate → Call
+straightIn c p = straightOn p (2 * c) 100000
+
+retraceIn : ℕ → Plate → Call
+retraceIn c p = retraceOn p (2 * c) (2 * c) 100000 100000
+
+-- the retrace call with room for just this path and these marks
+retraces : Plate → List Float → List (ℕ × ℕ) → Answer Counts → Row
+retraces p path ms c = retraceIn (length ms) p ⇒ retraced c path (pairs ms)
+
+computedDistances : Answer (Float × Float) → Answer (Float × Float)
+computedDistances (gives d) = gives (computed (d .0), computed (d .1))
+computedDistances (refuses number place) = refuses number place
+
+-- what the definitions say
+pub replyTo : Call → Reply
+replyTo (distanceOf a b) = distances (computedDistances (distanceCall a b))
+replyTo (twoRoundings a b) =
+    let dx = sub binary64 (a .x) (b .x) in
+    let dy = sub binary64 (a .y) (b .y) in
+    squared (computed (add binary64 (mul binary64 dx dx) (mul binary64 dy dy)))
+replyTo (startOn p) = starts (startCall p)
+replyTo (orderOn p n w) = let o = orderCall p (unwritten n) w in ordered (o .answer) (o .order)
+replyTo (straightOn p n w) = let o = straightCall p (unwrittenPath n) w in straightened (o .answer) (map computed (o .path))
+replyTo (retraceOn p n m w d) = let o = retraceCall p (unwrittenPath n) (unwritten m) w d in retraced (o .answer) (map computed (o .path)) (o .marks)
+replyTo (roomIn n) = room (orderRoom n) (straightRoom n) (retraceRoom n n)
+replyTo (gridOn p) = let g = gridOf (box (p .points)) in grid (computed (g .«cell_size»)) (g .cols) (g .rows)
+
+-- ---- plates and points of more than one row
+
+A : Plate
+A = drawn whole [] 0 0 Outside
+
+B : StartPointStrategy → Plate
+B s = drawn whole ((0, 0) ∷ (4, 0) ∷ [] ∣ []) 10 10 s
+
+C : StartPointStrategy → Plate
+C s = drawn whole ((0, 0) ∷ (10, 0) ∷ [] ∣ []) 10 10 s
+
+D : Plate
+D = drawn whole ((0, 0) ∷ (4, 0) ∷ [] ∣ (4, 1) ∷ (8, 1) ∷ [] ∣ []) 8 2 Outside
+
+E : Plate
+E = drawn whole ((0, 0) ∷ (4, 0) ∷ (8, 0) ∷ [] ∣ (0, 1) ∷ [] ∣ []) 0 0 Inside
+
+F : Plate
+F = drawn whole ((4, 0) ∷ [] ∣ (0, 1) ∷ (4, 1) ∷ (8, 1) ∷ [] ∣ []) 8 0 Inside
+
+G : Plate
+G = drawn whole ((0, 0) ∷ [] ∣ (1, 0) ∷ [] ∣ (0, 1) ∷ [] ∣ []) 0 0 Inside
+
+zeroPoint : Point
+zeroPoint = point (whole 0) (whole 0)
+
+-- (1 + 2^−27, 1.25 × 2^−27)
+I : Point
+I = point (binary (2 ^ 27 + 1) 27) (binary 5 29)
+
+-- with contours that are skipped
+skipping : Plate
+skipping = drawn whole ([] ∣ (0, 0) ∷ (4, 0) ∷ [] ∣ [] ∣ (9, 0) ∷ (5, 0) ∷ [] ∣ (1, 1) ∷ (1, 2) ∷ [] ∣ (9, 1) ∷ [] ∣ []) 0 0 Inside
+
+-- the next f64 above 1,000,000, and above 2^31
+aboveMillion : Float
+aboveMillion = binary (1000000 * 2 ^ 33 + 1) 33
+
+abovePower : Float
+abovePower = binary (2 ^ 52 + 1) 21
+-- ---- the table
+
+pub table : List Row
+table =
+    -- A: none: empty path; start call 7. The slices stay as they were.
+    retraceIn 2 A ⇒ retraced (joined 0 0 0 0) (unwrittenPath 4) (unwritten 4)
+    ∷ straightIn 2 A ⇒ straightened (gives 0) (unwrittenPath 4)
+    ∷ orderIn 2 A ⇒ ordered (gives 0) (unwritten 4)
+    ∷ startOn A ⇒ starts (refuses 7 0)
+    -- B: Outside forward, Inside reversed
+    ∷ startOn (B Outside) ⇒ starts (gives (0, forward))
+    ∷ startOn (B Inside) ⇒ starts (gives (0, reversed))
+    -- C: forward for both
+    ∷ startOn (C Outside) ⇒ starts (gives (0, forward))
+    ∷ startOn (C Inside) ⇒ starts (gives (0, forward))
+    -- D: path and marks
+    ∷ retraces D
+    (along whole ((0, 0) ∷ (4, 0) ∷ (4, 1) ∷ (8, 1) ∷ []))
+    ((0, 0) ∷ (1, 0) ∷ (3, 2) ∷ (1, 2) ∷ [])
+    (joined 4 2 0 1)
+    -- E: path and marks, with C = 6
+    ∷ retraces E
+    (along whole ((0, 0) ∷ (4, 0) ∷ (8, 0) ∷ (4, 0) ∷ (0, 0) ∷ (0, 1) ∷ []))
+    ((0, 0) ∷ (1, 0) ∷ (1, 1) ∷ (2, 1) ∷ (2, 0) ∷ (3, 3) ∷ [])
+    (joined 6 2 2 1)
+    -- E with C = 4: refusal 6 and four points, four marks
+    ∷ retraceIn 4 E
+    ⇒ retraced (refuses 6 4)
+    (along whole ((0, 0) ∷ (4, 0) ∷ (8, 0) ∷ (4, 0) ∷ []))
+    (pairs ((0, 0) ∷ (1, 0) ∷ (1, 1) ∷ (2, 1) ∷ []))
+    -- F: path and marks
+    ∷ retraces F
+    (along whole ((4, 0) ∷ (4, 1) ∷ (8, 1) ∷ (4, 1) ∷ (0, 1) ∷ []))
+    ((0, 0) ∷ (3, 2) ∷ (1, 2) ∷ (2, 1) ∷ (1, 1) ∷ [])
+    (joined 5 2 1 1)
+    -- G: straight in that order
+    ∷ orderIn 3 G ⇒ ordered (gives 3) (pairs ((0, 0) ∷ (1, 0) ∷ (2, 0) ∷ []))
+    ∷ straightIn 3 G ⇒ straightened (gives 3) (along whole ((0, 0) ∷ (1, 0) ∷ (0, 1) ∷ []))
+    -- G: retrace
+    ∷ retraces G
+    (along whole ((0, 0) ∷ (1, 0) ∷ (0, 0) ∷ (0, 1) ∷ []))
+    ((0, 0) ∷ (3, 1) ∷ (2, 0) ∷ (3, 2) ∷ [])
+    (joined 4 0 1 2)
+    -- H: 25 and 5
+    ∷ distanceOf zeroPoint (point (whole 3) (whole 4)) ⇒ distances (gives (whole 25, whole 5))
+    -- I: squared 1 + 2^−26 + 2^−52 (and plain 1 + 2^−27); two roundings would give 1 + 2^−26
+    ∷ distanceOf zeroPoint I ⇒ distances (gives (binary (2 ^ 52 + 2 ^ 26 + 1) 52, binary (2 ^ 27 + 1) 27))
+    ∷ twoRoundings zeroPoint I ⇒ squared (binary (2 ^ 26 + 1) 26)
+    -- ---- distances
+    -- the differences are rounded first: with 1 + 3 × 2^−55 itself it would be 1 + 2^−52
+    ∷ distanceOf (point (whole 1) (whole 0)) (point (neg (binary 3 55)) (whole 0)) ⇒ distances (gives (whole 1, whole 1))
+    ∷ distanceOf (point (whole 0) (whole 1)) (point (whole 0) (neg (binary 3 55))) ⇒ distances (gives (whole 1, whole 1))
+    -- the root is rounded to the nearest: the first of these up, the second down
+    ∷ distanceOf zeroPoint (point (whole 1) (whole 1)) ⇒ distances (gives (whole 2, decimal 14142135623730951 16))
+    ∷ distanceOf zeroPoint (point (whole 2) (whole 3)) ⇒ distances (gives (whole 13, decimal 3605551275463989 15))
+    -- subnormal numbers count: 2^−1074, and 2.25 × 2^−1074, which is rounded to 2^−1073
+    ∷ distanceOf zeroPoint (point (binary 1 537) (whole 0)) ⇒ distances (gives (binary 1 1074, binary 1 537))
+    ∷ distanceOf zeroPoint (point (binary 3 538) (whole 0)) ⇒ distances (gives (binary 1 1073, binary 6369051672525773 589))
+    -- a magnitude of 2,147,483,648 passes, and the next f64 above gets 4; so do an infinity and a NaN; the first of two gives the place
+    ∷ distanceOf (point (whole (2 ^ 31)) (whole 0)) (point (neg (whole (2 ^ 31))) (whole 0)) ⇒ distances (gives (whole (2 ^ 64), whole (2 ^ 32)))
+    ∷ distanceOf (point (whole 0) (whole 0)) (point (abovePower) (whole 0)) ⇒ distances (refuses 4 2)
+    ∷ distanceOf (point (whole 0) (neg abovePower)) (point (whole 0) (inf false)) ⇒ distances (refuses 4 1)
+    ∷ distanceOf (point (inf true) (whole 0)) (point (whole 0) (whole 0)) ⇒ distances (refuses 4 0)
+    ∷ distanceOf (point (whole 0) (whole 0)) (point (whole 0) nan) ⇒ distances (refuses 4 3)
+    -- ---- start
+    -- contour numbers count skipped contours
+    ∷ startOn (drawn whole ([] ∣ (0, 0) ∷ (4, 0) ∷ [] ∣ []) 10 10 Inside) ⇒ starts (gives (1, reversed))
+    -- the centre of an odd width, and of an odd height, is not a whole number: 3.5 is as far from 3 as from 4
+    ∷ startOn (drawn whole ((3, 0) ∷ (4, 0) ∷ [] ∣ []) 7 0 Outside) ⇒ starts (gives (0, forward))
+    ∷ startOn (drawn whole ((0, 3) ∷ (0, 4) ∷ [] ∣ []) 0 7 Outside) ⇒ starts (gives (0, forward))
+    -- of equal ones in two contours the first wins, for both strategies
+    ∷ startOn (drawn whole ((1, 0) ∷ [] ∣ (0, 1) ∷ [] ∣ []) 0 0 Outside) ⇒ starts (gives (0, forward))
+    ∷ startOn (drawn whole ((1, 0) ∷ [] ∣ (0, 1) ∷ [] ∣ []) 0 0 Inside) ⇒ starts (gives (0, forward))
+    -- only ends count, and a later contour can win
+    ∷ startOn (drawn whole ((1, 0) ∷ (2, 0) ∷ [] ∣ (3, 0) ∷ (9, 9) ∷ (5, 0) ∷ [] ∣ []) 0 0 Outside) ⇒ starts (gives (1, reversed))
+    -- squared distances with both products rounded would be equal here
+    ∷ startOn (drawn tenths ((7, 4) ∷ [] ∣ (4, 7) ∷ [] ∣ []) 0 0 Inside) ⇒ starts (gives (1, forward))
+    -- ---- grid and nearest
+    -- cell size, columns and rows: s is no less than 1 / 50; 54 columns, the most that there are
+    ∷ gridOn (drawn whole ((0, 0) ∷ (8, 1) ∷ [] ∣ []) 0 0 Outside) ⇒ grid (hundredths 16) 53 10
+    ∷ gridOn (drawn whole ((1, 8) ∷ (0, 0) ∷ [] ∣ []) 0 0 Outside) ⇒ grid (hundredths 16) 10 53
+    ∷ gridOn (drawn sixteenths ((4, 0) ∷ (8, 2) ∷ [] ∣ []) 0 0 Outside) ⇒ grid (hundredths 2) 16 10
+    ∷ gridOn (drawn whole ((0, 0) ∷ (3, 0) ∷ [] ∣ []) 0 0 Outside) ⇒ grid (hundredths 6) 54 3
+    -- an equal distance wins with the higher path place, not the lower
+    ∷ retraces (drawn whole ((0, 0) ∷ [] ∣ (1, 0) ∷ (0, 1) ∷ [] ∣ []) 0 0 Outside)
+    (along whole ((1, 0) ∷ (0, 1) ∷ (0, 0) ∷ []))
+    ((0, 1) ∷ (1, 1) ∷ (3, 0) ∷ [])
+    (joined 3 1 0 1)
+    -- the search does not stop at ring 1
+    ∷ retraces (drawn whole ((0, 2) ∷ (3, 0) ∷ [] ∣ (1, 0) ∷ [] ∣ []) 4 0 Inside)
+    (along whole ((3, 0) ∷ (0, 2) ∷ (3, 0) ∷ (1, 0) ∷ []))
+    ((0, 1) ∷ (1, 0) ∷ (2, 0) ∷ (3, 2) ∷ [])
+    (joined 4 1 1 1)
+    -- ring 1 is searched though ring 0 had a point: the one in the next cell is nearer
+    ∷ retraces (drawn sixteenths ((0, 0) ∷ (800, 8) ∷ (177, 8) ∷ (161, 8) ∷ [] ∣ (175, 8) ∷ [] ∣ []) 0 0 Inside)
+    (along sixteenths ((0, 0) ∷ (800, 8) ∷ (177, 8) ∷ (161, 8) ∷ (177, 8) ∷ (175, 8) ∷ []))
+    ((0, 0) ∷ (1, 0) ∷ (1, 1) ∷ (1, 2) ∷ (2, 2) ∷ (3, 4) ∷ [])
+    (joined 6 3 1 1)
+    -- ring 2 is searched: the bound is (r − 1) × s, not r × s
+    ∷ retraces (drawn sixteenths ((0, 0) ∷ (800, 8) ∷ (193, 8) ∷ (152, 8) ∷ [] ∣ (175, 8) ∷ [] ∣ []) 0 0 Inside)
+    (along sixteenths ((0, 0) ∷ (800, 8) ∷ (193, 8) ∷ (152, 8) ∷ (193, 8) ∷ (175, 8) ∷ []))
+    ((0, 0) ∷ (1, 0) ∷ (1, 1) ∷ (1, 2) ∷ (2, 2) ∷ (3, 4) ∷ [])
+    (joined 6 3 1 1)
+    -- the bound is (r − 1) × s, with whole numbers
+    ∷ retraces (drawn whole ((0, 2) ∷ (2, 0) ∷ (1, 0) ∷ (3, 1) ∷ [] ∣ (3, 0) ∷ [] ∣ []) 0 0 Outside)
+    (along whole ((3, 1) ∷ (1, 0) ∷ (2, 0) ∷ (0, 2) ∷ (2, 0) ∷ (3, 0) ∷ []))
+    ((0, 3) ∷ (1, 2) ∷ (1, 1) ∷ (1, 0) ∷ (2, 2) ∷ (3, 4) ∷ [])
+    (joined 6 3 1 1)
+    -- a ring whose bound equals the best is still searched; the bound is (r − 1) × s squared, not s squared × (r − 1) squared
+    ∷ retraces (drawn hundredths ((0, 0) ∷ (24, 0) ∷ [] ∣ (12, 0) ∷ [] ∣ []) 0 0 Inside)
+    (along hundredths ((0, 0) ∷ (24, 0) ∷ (12, 0) ∷ []))
+    ((0, 0) ∷ (1, 0) ∷ (3, 2) ∷ [])
+    (joined 3 1 0 1)
+    -- ring 2 is left where its bound is above the best, though by rounded cell edges it holds a nearer point
+    ∷ retraces (drawn thousandths ((71, 2) ∷ (31, 2) ∷ [] ∣ (51, 2) ∷ [] ∣ []) 0 0 Inside)
+    (along thousandths ((31, 2) ∷ (71, 2) ∷ (31, 2) ∷ (51, 2) ∷ []))
+    ((0, 1) ∷ (1, 0) ∷ (2, 0) ∷ (3, 2) ∷ [])
+    (joined 4 1 1 1)
+    -- the bound is not that of ring 3 at ring 2
+    ∷ retraces (drawn tenths ((11, 0) ∷ (311, 0) ∷ (23, 0) ∷ [] ∣ (17, 0) ∷ [] ∣ []) 0 0 Inside)
+    (along tenths ((11, 0) ∷ (311, 0) ∷ (23, 0) ∷ (311, 0) ∷ (11, 0) ∷ (17, 0) ∷ []))
+    ((0, 0) ∷ (1, 0) ∷ (1, 1) ∷ (2, 1) ∷ (2, 0) ∷ (3, 3) ∷ [])
+    (joined 6 2 2 1)
+    -- the column is by (x − origin) × (1 / s), not by (x − origin) / s
+    ∷ retraces (drawn hundredths ((13, 0) ∷ (29, 0) ∷ [] ∣ (21, 0) ∷ [] ∣ []) 8 0 Outside)
+    (along hundredths ((13, 0) ∷ (29, 0) ∷ (21, 0) ∷ []))
+    ((0, 0) ∷ (1, 0) ∷ (3, 2) ∷ [])
+    (joined 3 1 0 1)
+    -- the same, with negative coordinates
+    ∷ retraces (drawn same ((neg (decimal 5 1), neg (decimal 5 1)) ∷ (decimal 5 1, decimal 5 1) ∷ (decimal 6811289305114243 17, decimal 9999999999999992 17) ∷ (decimal 1281128930511424 16, decimal 15999999999999986 17) ∷ [] ∣ (decimal 6811289305114243 17, decimal 15999999999999986 17) ∷ [] ∣ []) 0 0 Outside)
+    (along same ((neg (decimal 5 1), neg (decimal 5 1)) ∷ (decimal 5 1, decimal 5 1) ∷ (decimal 6811289305114243 17, decimal 9999999999999992 17) ∷ (decimal 1281128930511424 16, decimal 15999999999999986 17) ∷ (decimal 6811289305114243 17, decimal 15999999999999986 17) ∷ []))
+    ((0, 0) ∷ (1, 0) ∷ (1, 1) ∷ (1, 2) ∷ (3, 4) ∷ [])
+    (joined 5 3 0 1)
+    -- dy × dy alone is rounded before the sum
+    ∷ retraces (drawn hundredths ((600, 0) ∷ (10, 4) ∷ [] ∣ (2, 0) ∷ [] ∣ (0, 0) ∷ (6, 2) ∷ (8, 10) ∷ (8, 8) ∷ (12, 6) ∷ (4, 6) ∷ [] ∣ []) 0 0 Outside)
+    (along hundredths ((600, 0) ∷ (10, 4) ∷ (4, 6) ∷ (12, 6) ∷ (8, 8) ∷ (8, 10) ∷ (6, 2) ∷ (0, 0) ∷ (2, 0) ∷ []))
+    ((0, 0) ∷ (1, 0) ∷ (3, 8) ∷ (1, 7) ∷ (1, 6) ∷ (1, 5) ∷ (1, 4) ∷ (1, 3) ∷ (3, 2) ∷ [])
+    (joined 9 6 0 2)
+    -- 50 cells, and a margin of one cell
+    ∷ retraces (drawn whole ((87, 1) ∷ [] ∣ (3, 1) ∷ [] ∣ (89, 0) ∷ [] ∣ (46, 1) ∷ [] ∣ []) 100 0 Inside)
+    (along whole ((46, 1) ∷ (87, 1) ∷ (46, 1) ∷ (3, 1) ∷ (46, 1) ∷ (87, 1) ∷ (89, 0) ∷ []))
+    ((0, 3) ∷ (3, 0) ∷ (2, 0) ∷ (3, 1) ∷ (2, 2) ∷ (2, 1) ∷ (3, 2) ∷ [])
+    (joined 7 0 3 3)
+    -- the height of the box counts where it is above the width
+    ∷ retraces (drawn whole ((30, 10) ∷ [] ∣ (65, 63) ∷ (65, 62) ∷ (65, 62) ∷ [] ∣ []) 100 0 Inside)
+    (along whole ((30, 10) ∷ (65, 62) ∷ (65, 62) ∷ (65, 63) ∷ []))
+    ((0, 0) ∷ (3, 3) ∷ (1, 2) ∷ (1, 1) ∷ [])
+    (joined 4 2 0 1)
+    -- ---- samples and cache
+    -- the last vertex is always a sample
+    ∷ retraces (drawn whole ((57, 0) ∷ [] ∣ (97, 2) ∷ (96, 1) ∷ [] ∣ (11, 0) ∷ (10, 0) ∷ [] ∣ []) 0 0 Inside)
+    (along whole ((10, 0) ∷ (11, 0) ∷ (57, 0) ∷ (96, 1) ∷ (97, 2) ∷ []))
+    ((0, 4) ∷ (1, 3) ∷ (3, 0) ∷ (3, 2) ∷ (1, 1) ∷ [])
+    (joined 5 2 0 2)
+    -- vertices whose total did not reach s are no samples
+    ∷ retraces (drawn whole ((9, 0) ∷ (74, 0) ∷ (11, 32) ∷ [] ∣ (47, 2) ∷ (47, 1) ∷ (45, 2) ∷ [] ∣ []) 0 0 Inside)
+    (along whole ((9, 0) ∷ (74, 0) ∷ (11, 32) ∷ (74, 0) ∷ (47, 2) ∷ (47, 1) ∷ (45, 2) ∷ []))
+    ((0, 0) ∷ (1, 0) ∷ (1, 1) ∷ (2, 1) ∷ (3, 3) ∷ (1, 3) ∷ (1, 4) ∷ [])
+    (joined 7 4 1 1)
+    -- s is a fiftieth
+    ∷ retraces (drawn whole ((59, 0) ∷ (60, 1) ∷ (59, 1) ∷ [] ∣ (99, 0) ∷ [] ∣ (34, 0) ∷ [] ∣ []) 100 0 Outside)
+    (along whole ((99, 0) ∷ (60, 1) ∷ (59, 1) ∷ (60, 1) ∷ (59, 0) ∷ (34, 0) ∷ []))
+    ((0, 3) ∷ (3, 1) ∷ (1, 1) ∷ (2, 1) ∷ (1, 0) ∷ (3, 4) ∷ [])
+    (joined 6 2 1 2)
+    -- a total equal to s reaches it
+    ∷ retraces (drawn whole ((28, 1) ∷ (28, 2) ∷ (29, 1) ∷ (29, 1) ∷ [] ∣ (1, 3) ∷ (33, 50) ∷ [] ∣ (11, 2) ∷ (12, 3) ∷ [] ∣ (40, 0) ∷ [] ∣ []) 50 0 Outside)
+    (along whole ((33, 50) ∷ (1, 3) ∷ (11, 2) ∷ (12, 3) ∷ (28, 2) ∷ (29, 1) ∷ (29, 1) ∷ (29, 1) ∷ (28, 2) ∷ (28, 1) ∷ (28, 2) ∷ (29, 1) ∷ (40, 0) ∷ []))
+    ((0, 5) ∷ (1, 4) ∷ (3, 6) ∷ (1, 6) ∷ (3, 1) ∷ (1, 1) ∷ (1, 2) ∷ (2, 5) ∷ (2, 4) ∷ (1, 0) ∷ (2, 8) ∷ (2, 7) ∷ (3, 8) ∷ [])
+    (joined 13 5 4 3)
+    -- the total becomes its remainder by s, not 0: vertex 2 is the entry
+    ∷ retraces (drawn whole ((4, 0) ∷ [] ∣ (0, 1) ∷ (3, 1) ∷ (4, 1) ∷ (4, 100) ∷ [] ∣ []) 8 0 Inside)
+    (along whole ((4, 0) ∷ (4, 1) ∷ (4, 100) ∷ (4, 1) ∷ (3, 1) ∷ (0, 1) ∷ []))
+    ((0, 0) ∷ (3, 3) ∷ (1, 3) ∷ (2, 1) ∷ (1, 2) ∷ (1, 1) ∷ [])
+    (joined 6 3 1 1)
+    -- the remainder is by s, not what is left after taking s once; and plain distances are added, not squared ones
+    ∷ retraces (drawn hundredths ((0, 0) ∷ (5, 0) ∷ (6, 0) ∷ (1, 0) ∷ [] ∣ (7, 0) ∷ [] ∣ []) 0 0 Outside)
+    (along hundredths ((7, 0) ∷ (5, 0) ∷ (6, 0) ∷ (1, 0) ∷ (6, 0) ∷ (5, 0) ∷ (0, 0) ∷ []))
+    ((0, 4) ∷ (3, 1) ∷ (1, 1) ∷ (1, 2) ∷ (2, 2) ∷ (2, 1) ∷ (1, 0) ∷ [])
+    (joined 7 3 2 1)
+    -- a box smaller than 1 counts as 1
+    ∷ retraces (drawn sixtyFourths ((11, 3) ∷ [] ∣ (14, 0) ∷ (14, 1) ∷ (15, 2) ∷ [] ∣ []) 0 0 Inside)
+    (along sixtyFourths ((11, 3) ∷ (15, 2) ∷ (14, 1) ∷ (14, 0) ∷ []))
+    ((0, 0) ∷ (3, 3) ∷ (1, 2) ∷ (1, 1) ∷ [])
+    (joined 4 2 0 1)
+    -- an equal distance replaces no cache
+    ∷ retraces (drawn whole ((2, 0) ∷ (2, 0) ∷ [] ∣ (6, 1) ∷ [] ∣ []) 8 0 Outside)
+    (along whole ((6, 1) ∷ (2, 0) ∷ (2, 0) ∷ []))
+    ((0, 2) ∷ (3, 0) ∷ (1, 0) ∷ [])
+    (joined 3 1 0 1)
+    -- caches are updated after each later contour
+    ∷ retraces (drawn whole ((0, 0) ∷ [] ∣ (2, 0) ∷ (0, 0) ∷ [] ∣ (1, 2) ∷ [] ∣ []) 0 0 Outside)
+    (along whole ((1, 2) ∷ (0, 0) ∷ (0, 0) ∷ (2, 0) ∷ []))
+    ((0, 3) ∷ (3, 0) ∷ (3, 2) ∷ (1, 1) ∷ [])
+    (joined 4 1 0 2)
+    -- the listed cells are those within 1: the cells around
+    ∷ retraces (drawn whole ((6, 1) ∷ [] ∣ (44, 1) ∷ [] ∣ (5, 1) ∷ [] ∣ (25, 1) ∷ [] ∣ []) 50 0 Inside)
+    (along whole ((25, 1) ∷ (6, 1) ∷ (5, 1) ∷ (6, 1) ∷ (25, 1) ∷ (44, 1) ∷ []))
+    ((0, 3) ∷ (3, 0) ∷ (3, 2) ∷ (2, 1) ∷ (2, 0) ∷ (3, 1) ∷ [])
+    (joined 6 0 2 3)
+    -- in the row above too
+    ∷ retraces (drawn whole ((1, 6) ∷ [] ∣ (1, 44) ∷ [] ∣ (1, 5) ∷ [] ∣ (1, 25) ∷ [] ∣ []) 0 50 Inside)
+    (along whole ((1, 25) ∷ (1, 6) ∷ (1, 5) ∷ (1, 6) ∷ (1, 25) ∷ (1, 44) ∷ []))
+    ((0, 3) ∷ (3, 0) ∷ (3, 2) ∷ (2, 1) ∷ (2, 0) ∷ (3, 1) ∷ [])
+    (joined 6 0 2 3)
+    -- and not those within 2
+    ∷ retraces (drawn whole ((23, 3) ∷ [] ∣ (22, 3) ∷ (23, 5) ∷ [] ∣ (50, 2) ∷ [] ∣ []) 50 0 Outside)
+    (along whole ((50, 2) ∷ (23, 3) ∷ (23, 5) ∷ (22, 3) ∷ []))
+    ((0, 3) ∷ (3, 0) ∷ (3, 2) ∷ (1, 1) ∷ [])
+    (joined 4 1 0 2)
+    -- samples in other cells are not queried again
+    ∷ retraces (drawn whole ((30, 2) ∷ [] ∣ (50, 0) ∷ [] ∣ (27, 0) ∷ (27, 1) ∷ [] ∣ []) 0 0 Outside)
+    (along whole ((50, 0) ∷ (30, 2) ∷ (27, 0) ∷ (27, 1) ∷ []))
+    ((0, 1) ∷ (3, 0) ∷ (3, 2) ∷ (1, 2) ∷ [])
+    (joined 4 1 0 2)
+    -- cells around each point are listed, not only around the ends
+    ∷ retraces (drawn whole ((4, 0) ∷ [] ∣ (1, 0) ∷ [] ∣ (3, 0) ∷ [] ∣ (2, 0) ∷ (1, 0) ∷ (4, 0) ∷ [] ∣ []) 4 0 Outside)
+    (along whole ((4, 0) ∷ (4, 0) ∷ (1, 0) ∷ (2, 0) ∷ (1, 0) ∷ (1, 0) ∷ (1, 0) ∷ (2, 0) ∷ (3, 0) ∷ []))
+    ((0, 0) ∷ (3, 5) ∷ (1, 4) ∷ (1, 3) ∷ (2, 2) ∷ (3, 1) ∷ (2, 4) ∷ (2, 3) ∷ (3, 2) ∷ [])
+    (joined 9 2 3 3)
+    -- samples are queried by cell, not by contour
+    ∷ retraces (drawn whole ((3, 0) ∷ (4, 0) ∷ [] ∣ (4, 0) ∷ (3, 0) ∷ [] ∣ (0, 0) ∷ [] ∣ (4, 1) ∷ [] ∣ []) 0 0 Outside)
+    (along whole ((4, 1) ∷ (4, 0) ∷ (3, 0) ∷ (3, 0) ∷ (4, 0) ∷ (3, 0) ∷ (0, 0) ∷ []))
+    ((0, 5) ∷ (3, 1) ∷ (1, 0) ∷ (3, 3) ∷ (1, 2) ∷ (2, 3) ∷ (3, 4) ∷ [])
+    (joined 7 2 1 3)
+    -- cells are listed by points in vertex order, not in the order of emission
+    ∷ retraces (drawn whole ((8, 0) ∷ (4, 0) ∷ [] ∣ (1, 0) ∷ [] ∣ (8, 0) ∷ (4, 0) ∷ [] ∣ []) 0 0 Inside)
+    (along whole ((1, 0) ∷ (4, 0) ∷ (8, 0) ∷ (8, 0) ∷ (4, 0) ∷ []))
+    ((0, 2) ∷ (3, 1) ∷ (1, 0) ∷ (3, 3) ∷ (1, 3) ∷ [])
+    (joined 5 2 0 2)
+    -- cells are listed by rows, then columns
+    ∷ retraces (drawn whole ((27, 1) ∷ [] ∣ (27, 2) ∷ (28, 1) ∷ [] ∣ (0, 1) ∷ [] ∣ []) 0 0 Inside)
+    (along whole ((0, 1) ∷ (27, 1) ∷ (28, 1) ∷ (27, 2) ∷ []))
+    ((0, 3) ∷ (3, 0) ∷ (3, 2) ∷ (1, 1) ∷ [])
+    (joined 4 1 0 2)
+    -- rows upward
+    ∷ retraces (drawn whole ((8, 1) ∷ [] ∣ (8, 2) ∷ (7, 1) ∷ [] ∣ (50, 1) ∷ [] ∣ []) 8 0 Outside)
+    (along whole ((50, 1) ∷ (8, 1) ∷ (7, 1) ∷ (8, 2) ∷ []))
+    ((0, 3) ∷ (3, 0) ∷ (3, 2) ∷ (1, 1) ∷ [])
+    (joined 4 1 0 2)
+    -- columns upward
+    ∷ retraces (drawn whole ((50, 0) ∷ [] ∣ (8, 0) ∷ (7, 0) ∷ [] ∣ (7, 0) ∷ (8, 0) ∷ [] ∣ []) 8 0 Outside)
+    (along whole ((50, 0) ∷ (8, 0) ∷ (7, 0) ∷ (7, 0) ∷ (8, 0) ∷ []))
+    ((0, 0) ∷ (3, 1) ∷ (1, 1) ∷ (3, 3) ∷ (1, 3) ∷ [])
+    (joined 5 2 0 2)
+    -- the point's own cell is not listed before the row below it
+    ∷ retraces (drawn whole ((0, 2) ∷ (0, 1) ∷ [] ∣ (29, 1) ∷ [] ∣ (0, 1) ∷ (0, 2) ∷ [] ∣ []) 0 0 Outside)
+    (along whole ((29, 1) ∷ (0, 1) ∷ (0, 2) ∷ (0, 1) ∷ (0, 1) ∷ (0, 2) ∷ []))
+    ((0, 2) ∷ (3, 1) ∷ (1, 0) ∷ (2, 1) ∷ (3, 3) ∷ (1, 3) ∷ [])
+    (joined 6 2 1 2)
+    -- within a cell by vertex upward
+    ∷ retraces (drawn whole ((0, 1) ∷ (0, 1) ∷ [] ∣ (0, 2) ∷ [] ∣ (34, 3) ∷ [] ∣ []) 0 0 Outside)
+    (along whole ((34, 3) ∷ (0, 2) ∷ (0, 1) ∷ (0, 1) ∷ []))
+    ((0, 3) ∷ (3, 2) ∷ (3, 0) ∷ (1, 0) ∷ [])
+    (joined 4 1 0 2)
+    -- ---- retrace and marks
+    -- the place is the fresh one, not the cached one
+    ∷ retraces (drawn whole ((1, 8) ∷ [] ∣ (7, 0) ∷ [] ∣ (7, 2) ∷ [] ∣ []) 0 0 Outside)
+    (along whole ((1, 8) ∷ (7, 2) ∷ (7, 0) ∷ []))
+    ((0, 0) ∷ (3, 2) ∷ (3, 1) ∷ [])
+    (joined 3 0 0 2)
+    -- a return to e of two steps
+    ∷ retraces (drawn whole ((4, 0) ∷ [] ∣ (0, 1) ∷ (4, 1) ∷ (8, 1) ∷ (12, 1) ∷ [] ∣ []) 8 0 Inside)
+    (along whole ((4, 0) ∷ (4, 1) ∷ (8, 1) ∷ (12, 1) ∷ (8, 1) ∷ (4, 1) ∷ (0, 1) ∷ []))
+    ((0, 0) ∷ (3, 2) ∷ (1, 2) ∷ (1, 3) ∷ (2, 2) ∷ (2, 1) ∷ (1, 1) ∷ [])
+    (joined 7 3 2 1)
+    -- ---- order and straight
+    -- forward where forward ≤ reverse: an equal distance reverses nothing
+    ∷ orderIn 2 (drawn whole ((0, 0) ∷ [] ∣ (1, 0) ∷ (0, 1) ∷ [] ∣ []) 0 0 Inside) ⇒ ordered (gives 2) (pairs ((0, 0) ∷ (1, 0) ∷ []))
+    -- a start that is reversed: 1, and its points from the last
+    ∷ orderIn 1 (B Inside) ⇒ ordered (gives 1) (pairs ((0, 1) ∷ []))
+    ∷ straightIn 2 (B Inside) ⇒ straightened (gives 2) (along whole ((4, 0) ∷ (0, 0) ∷ []))
+    -- from the last end, not the first
+    ∷ orderIn 2 (drawn whole ((0, 1) ∷ (3, 2) ∷ [] ∣ (2, 1) ∷ (3, 2) ∷ [] ∣ []) 0 0 Inside) ⇒ ordered (gives 2) (pairs ((0, 0) ∷ (1, 1) ∷ []))
+    -- contour numbers count skipped contours; a reversed contour ends at its first vertex
+    ∷ orderIn 4 skipping ⇒ ordered (gives 4) (pairs ((1, 0) ∷ (3, 1) ∷ (5, 0) ∷ (4, 0) ∷ []))
+    ∷ straightIn 7 skipping
+    ⇒ straightened (gives 7) (along whole ((0, 0) ∷ (4, 0) ∷ (5, 0) ∷ (9, 0) ∷ (9, 1) ∷ (1, 1) ∷ (1, 2) ∷ []))
+    -- ---- refusals
+    -- 1: M 4,097 gets it, before 2, before 5 and before 7; M 4,096 passes
+    ∷ startOn (slices [] (replicate 4097 0)) ⇒ starts (refuses 1 0)
+    ∷ startOn (slices [] (65537 ∷ replicate 4096 0)) ⇒ starts (refuses 1 0)
+    ∷ retraceOn (slices [] (replicate 4097 0)) 3 2 0 0 ⇒ retraced (refuses 1 0) (unwrittenPath 3) (unwritten 2)
+    ∷ retraceOn (slices [] (replicate 4096 0)) 3 2 (1 + 8 * 4096 + 16384) 4096 ⇒ retraced (joined 0 0 0 0) (unwrittenPath 3) (unwritten 2)
+    -- 2: P 65,537 gets it, before 3; the sum does not wrap at 2^32
+    ∷ startOn (slices [] (65537 ∷ [])) ⇒ starts (refuses 2 0)
+    ∷ startOn (slices (0 ∷ 0 ∷ []) (4294967295 ∷ 2 ∷ [])) ⇒ starts (refuses 2 0)
+    -- 3: P 65,536 passes 2; a number too many, and one too few, and before 4 and 7
+    ∷ startOn (slices [] (65536 ∷ [])) ⇒ starts (refuses 3 0)
+    ∷ startOn (slices (0 ∷ 0 ∷ 0 ∷ []) (1 ∷ [])) ⇒ starts (refuses 3 0)
+    ∷ startOn (plate (nan ∷ []) (1 ∷ []) 0 0 Outside) ⇒ starts (refuses 3 0)
+    ∷ startOn (slices (0 ∷ 0 ∷ []) []) ⇒ starts (refuses 3 0)
+    -- 4: a magnitude of 1,000,000 passes, and the next f64 above gets 4; so do a NaN and an infinity; the first of two gives the place
+    ∷ startOn (plate (whole 1000000 ∷ neg (whole 1000000) ∷ []) (1 ∷ []) 0 0 Outside) ⇒ starts (gives (0, forward))
+    ∷ startOn (plate (whole 0 ∷ whole 0 ∷ whole 0 ∷ aboveMillion ∷ []) (2 ∷ []) 0 0 Outside) ⇒ starts (refuses 4 3)
+    ∷ startOn (plate (whole 0 ∷ whole 0 ∷ neg aboveMillion ∷ nan ∷ []) (2 ∷ []) 0 0 Outside) ⇒ starts (refuses 4 2)
+    ∷ startOn (plate (whole 0 ∷ nan ∷ inf false ∷ whole 0 ∷ []) (2 ∷ []) 0 0 Outside) ⇒ starts (refuses 4 1)
+    ∷ startOn (plate (inf true ∷ whole 0 ∷ []) (1 ∷ []) 0 0 Outside) ⇒ starts (refuses 4 0)
+    -- 4 comes before 5, in each call, and alters no slice
+    ∷ orderOn (plate (whole 0 ∷ nan ∷ []) (1 ∷ []) 0 0 Outside) 2 0 ⇒ ordered (refuses 4 1) (unwritten 2)
+    ∷ straightOn (plate (whole 0 ∷ nan ∷ []) (1 ∷ []) 0 0 Outside) 2 0 ⇒ straightened (refuses 4 1) (unwrittenPath 2)
+    ∷ retraceOn (plate (whole 0 ∷ nan ∷ []) (1 ∷ []) 0 0 Outside) 2 2 0 0 ⇒ retraced (refuses 4 1) (unwrittenPath 2) (unwritten 2)
+    -- 5: E with C = 6 needs 6 + 4 × 4 + 8 × 2 + 16,384 = 16,422 u32 and 2 f64; one short gets 5, u32 before f64, and alters no slice
+    ∷ retraceOn E 12 12 16422 2
+    ⇒ retraced (joined 6 2 2 1)
+    (along whole ((0, 0) ∷ (4, 0) ∷ (8, 0) ∷ (4, 0) ∷ (0, 0) ∷ (0, 1) ∷ []))
+    (pairs ((0, 0) ∷ (1, 0) ∷ (1, 1) ∷ (2, 1) ∷ (2, 0) ∷ (3, 3) ∷ []))
+    ∷ retraceOn E 12 12 16421 2 ⇒ retraced (refuses 5 0) (unwrittenPath 12) (unwritten 12)
+    ∷ retraceOn E 12 12 16422 1 ⇒ retraced (refuses 5 1) (unwrittenPath 12) (unwritten 12)
+    ∷ retraceOn E 12 12 16421 1 ⇒ retraced (refuses 5 0) (unwrittenPath 12) (unwritten 12)
+    -- by C, not by the result's length; and before 6
+    ∷ retraceOn E 14 14 16422 2 ⇒ retraced (refuses 5 0) (unwrittenPath 14) (unwritten 14)
+    ∷ retraceOn E 8 8 16419 2 ⇒ retraced (refuses 5 0) (unwrittenPath 8) (unwritten 8)
+    -- order and straight need M u32, skipped contours counted: 6 here
+    ∷ orderOn skipping 8 6 ⇒ ordered (gives 4) (pairs ((1, 0) ∷ (3, 1) ∷ (5, 0) ∷ (4, 0) ∷ []))
+    ∷ orderOn skipping 4 5 ⇒ ordered (refuses 5 0) (unwritten 4)
+    ∷ straightOn skipping 8 5 ⇒ straightened (refuses 5 0) (unwrittenPath 8)
+    -- 6: C is the least of both halves, rounded down; nothing after the first C entries is altered
+    ∷ retraceOn E 13 9 100000 2
+    ⇒ retraced (refuses 6 4)
+    (along whole ((0, 0) ∷ (4, 0) ∷ (8, 0) ∷ (4, 0) ∷ []) ++ unwrittenPath 5)
+    (pairs ((0, 0) ∷ (1, 0) ∷ (1, 1) ∷ (2, 1) ∷ []) ++ unwritten 1)
+    ∷ retraceOn E 9 13 100000 2
+    ⇒ retraced (refuses 6 4)
+    (along whole ((0, 0) ∷ (4, 0) ∷ (8, 0) ∷ (4, 0) ∷ []) ++ unwrittenPath 1)
+    (pairs ((0, 0) ∷ (1, 0) ∷ (1, 1) ∷ (2, 1) ∷ []) ++ unwritten 5)
+    ∷ orderOn G 5 3 ⇒ ordered (refuses 6 2) (pairs ((0, 0) ∷ (1, 0) ∷ []) ++ unwritten 1)
+    ∷ straightOn G 5 3 ⇒ straightened (refuses 6 2) (along whole ((0, 0) ∷ (1, 0) ∷ []) ++ unwrittenPath 1)
+    -- C = 0
+    ∷ retraceOn E 1 1 100000 2 ⇒ retraced (refuses 6 0) (unwrittenPath 1) (unwritten 1)
+    ∷ orderOn G 1 3 ⇒ ordered (refuses 6 0) (unwritten 1)
+    ∷ straightOn G 1 3 ⇒ straightened (refuses 6 0) (unwrittenPath 1)
+    ∷ retraceOn A 0 0 16384 0 ⇒ retraced (joined 0 0 0 0) [] []
+    -- a result alters nothing beyond it
+    ∷ retraceOn E 15 16 100000 2
+    ⇒ retraced (joined 6 2 2 1)
+    (along whole ((0, 0) ∷ (4, 0) ∷ (8, 0) ∷ (4, 0) ∷ (0, 0) ∷ (0, 1) ∷ []) ++ unwrittenPath 3)
+    (pairs ((0, 0) ∷ (1, 0) ∷ (1, 1) ∷ (2, 1) ∷ (2, 0) ∷ (3, 3) ∷ []) ++ unwritten 4)
+    ∷ orderOn G 9 3 ⇒ ordered (gives 3) (pairs ((0, 0) ∷ (1, 0) ∷ (2, 0) ∷ []) ++ unwritten 3)
+    ∷ straightOn G 9 3 ⇒ straightened (gives 3) (along whole ((0, 0) ∷ (1, 0) ∷ (0, 1) ∷ []) ++ unwrittenPath 3)
+    -- C is at most 1,048,576 for straight and retrace
+    ∷ roomIn 2097154 ⇒ room 1048577 1048576 1048576
+    -- 7: the start call only; a contour that holds no point is none
+    ∷ startOn (slices [] (0 ∷ 0 ∷ [])) ⇒ starts (refuses 7 0)
+    ∷ retraceIn 1 (slices [] (0 ∷ 0 ∷ [])) ⇒ retraced (joined 0 0 0 0) (unwrittenPath 2) (unwritten 2)
+    ∷ []
+
+-- each row's reply is what the definitions say
+pub plates : map (λ r. replyTo (r .call)) table ≡ map (λ r. r .reply) table
+unfolding
+    table whole decimal binary tenths hundredths thousandths sixteenths sixtyFourths same numeral computed computedDistances _∣_ along contourPoints drawn slices point pairs unwritten unwrittenPath
+    forward reversed joined _⇒_ orderIn straightIn retraceIn retraces replyTo A B C D E F G zeroPoint I skipping aboveMillion abovePower
+    -- floats
+    round size units odd neg add sub mul div rem lt eq le ofInt toUnsigned
+    -- Tools, HandedOver
+    pick sum without leads winner lesser greater plate at contoursFrom contours vertexAt orderRoom straightRoom retraceRoom
+    inRange plateLimit distanceLimit firstOff refuseIf checked orderWork retraceWork fitted over after
+    -- Distances, Start
+    mulAdd rootBy floorRoot roundRoot sqrt distanceSquared distance half centre oriented ends beats start
+    -- GridAndNearest
+    widen boxFrom box cellSize ceiling cellsAlong gridOf indexAlong cellOf square within onBorder
+    seenFrom found wins nearer scanRing bound beyond scanFrom nearest
+    -- SamplesAndCache
+    sampledAfter sampled cellNumber cellAt sampleAt samplesFrom samples cache cached querySample seeded
+    met listed listedRow listedSquare listedAround cellsAround queryIn updatedIn updated waiting askPath keep seed update
+    -- RetraceAndMarks
+    land cutUp cutDown backStep stepAt vertexOf walkTo walkBack forwardSteps backward returnTo bothWays emit begin pathPoints closer choose numberOf placeIn
+    entered joinAll retraceFrom retraceOf retrace coordinates marks countMarks marksOf
+    -- OrderAndStraight, Calls
+    lastEnd nearerSense nearerEnd contourNumber orderAfter orderFrom orderOf order entries straight
+    distanceCall startOr startCall orderCall straightCall counts vertices retraceCall
+plates = refl

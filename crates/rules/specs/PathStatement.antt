@@ -1,0 +1,128 @@
+-- The path statement (demand 3): how the marks divide the pairs of neighbouring path points, said of the slices that the retrace call wrote.
+-- Definitions only; the last of them is what is to be proved.
+use mathlib.Core.Path.{_≡_}
+use mathlib.Core.Logic.{_⊎_}
+use mathlib.Core.Bool.{Bool, true, false, not, _&&_}
+use mathlib.Core.List.{List, [], _∷_, _++_}
+use Prim.Native.Nat.{ℕ, zero, suc, _+_, _-_, _*_, _≤_, _<_}
+use lib.Dec.{T, eqb}
+use lib.ListN.{length, getD, take, drop}
+use lib.Ieee.{Float, lt}
+use Rattle.rules.specs.Tools.{sum, pick}
+use Rattle.rules.specs.HandedOver.{Plate, Contour, at, contours, Answer, gives}
+use Rattle.rules.specs.Distances.{distanceSquared}
+use Rattle.rules.specs.GridAndNearest.{box, gridOf, cellOf, square, within}
+use Rattle.rules.specs.RetraceAndMarks.{startKind, cutKind, backStepKind, jumpKind, retrace, coordinates, marks, countMarks, marksOf}
+use Rattle.rules.specs.Calls.{counts, vertices, retraceCall}
+use Rattle.rules.specs.declared.Counts.{Counts}
+
+-- n, and S: each contour has one segment less than it has points
+unfoldable pub contourCount : Plate → ℕ
+contourCount p = length (contours p)
+
+unfoldable pub segmentCount : Plate → ℕ
+segmentCount p = sum (p .lengths) - contourCount p
+
+-- c is one of a list of contours
+abbrev pub Among : Contour → List Contour → Type 0
+Among c [] = ⊥
+Among c (d ∷ ds) = (d ≡ c) ⊎ Among c ds
+
+-- c is one of the plate's contours that are not empty
+unfoldable pub IsContour : Plate → Contour → Type 0
+IsContour p c = Among c (contours p)
+
+-- vertex v is one of c's, is one of some contour's, and is none of c's
+abbrev pub Of : Contour → ℕ → Type 0
+Of c v = (c .first ≤ v) × (v ≤ c .first + c .last)
+
+unfoldable pub OfContour : Plate → ℕ → Type 0
+OfContour p v = (c : Contour) × IsContour p c × Of c v
+
+abbrev pub NotOf : Contour → ℕ → Type 0
+NotOf c v = (v < c .first) ⊎ (c .first + c .last < v)
+
+-- ---- reading a marks slice
+
+-- the kind and the reference of path point k
+unfoldable pub kindAt : List ℕ → ℕ → ℕ
+kindAt ms k = getD ms (2 * k) 0
+
+unfoldable pub referenceAt : List ℕ → ℕ → ℕ
+referenceAt ms k = getD ms (2 * k + 1) 0
+
+-- The vertex of the next path point, after those with the vertices vs, by its mark: a start's or jump's is the one named, a cut's the end of its segment
+-- that the point before doesn't have, a back-step's that of path point r.
+unfoldable pub named : List ℕ → ℕ → ℕ → ℕ
+named vs kind r =
+    pick (eqb kind cutKind) (pick (eqb (getD vs (length vs - 1) 0) r) (suc r) r) (pick (eqb kind backStepKind) (getD vs r 0) r)
+
+-- the vertices of the path points, after those with the vertices vs
+unfoldable pub verticesAfter : List ℕ → List ℕ → List ℕ
+verticesAfter vs [] = vs
+verticesAfter vs (kind ∷ []) = vs
+verticesAfter vs (kind ∷ r ∷ ms) = verticesAfter (vs ++ named vs kind r ∷ []) ms
+
+-- the vertex of path point k
+unfoldable pub vertexIn : List ℕ → ℕ → ℕ
+vertexIn ms k = getD (verticesAfter [] ms) k 0
+
+-- how often segment v is cut
+unfoldable pub cutsOf : ℕ → List ℕ → ℕ
+cutsOf v ms = countMarks (λ kind r. eqb kind cutKind && eqb r v) ms
+
+-- ---- the pair of path points k and k + 1, the mark of path point k + 1 having the reference r; v gives each path point's vertex
+
+-- segment r of a contour, in one of its two senses
+pub record Cut (p : Plate) (v : ℕ → ℕ) (k r : ℕ) : Type 0 where
+  pub segment : (c : Contour) × IsContour p c × (c .first ≤ r) × (r < c .first + c .last)
+  pub sense : ((v k ≡ r) × (v (suc k) ≡ suc r)) ⊎ ((v k ≡ suc r) × (v (suc k) ≡ r))
+
+-- the pair of path points r and r + 1, which is earlier, reversed
+pub record BackStep (v : ℕ → ℕ) (k r : ℕ) : Type 0 where
+  pub earlier : suc r ≤ k
+  pub from : v k ≡ v (suc r)
+  pub to : v (suc k) ≡ v r
+
+-- Vertex r of a contour that no earlier path point is of; and no earlier path point in the nine cells around it is nearer than the one left.
+pub record Jump (p : Plate) (v : ℕ → ℕ) (k r : ℕ) : Type 0 where
+  pub landing : v (suc k) ≡ r
+  pub fresh : (c : Contour) × IsContour p c × Of c r × ((i : ℕ) → i ≤ k → NotOf c (v i))
+  pub nearest :
+      let g = gridOf (box (p .points)) in
+      let q = at (p .points) r in
+      (i : ℕ) → i ≤ k → T (within (square g (cellOf g q) 1) (cellOf g (at (p .points) (v i))))
+      → T (not (lt (distanceSquared q (at (p .points) (v i))) (distanceSquared q (at (p .points) (v k)))))
+
+-- a cut, a back-step or a jump, as the kind says
+abbrev pub Pair : Plate → (ℕ → ℕ) → ℕ → ℕ → ℕ → Type 0
+Pair p v k kind r = ((kind ≡ cutKind) × Cut p v k r) ⊎ ((kind ≡ backStepKind) × BackStep v k r) ⊎ ((kind ≡ jumpKind) × Jump p v k r)
+
+-- ---- the whole path: its counts, its coordinates and its marks
+
+pub record Divides (p : Plate) (c : Counts) (path : List Float) (ms : List ℕ) : Type 0 where
+  pub whole : (length path ≡ 2 * c .points) × (length ms ≡ 2 * c .points)
+  -- each path point has its vertex's coordinates
+  pub coordinates : (k : ℕ) → k < c .points → at path k ≡ at (p .points) (vertexIn ms k)
+  pub start : (kindAt ms 0 ≡ startKind) × OfContour p (referenceAt ms 0)
+  pub pairs : (k : ℕ) → suc k < c .points → Pair p (vertexIn ms) k (kindAt ms (suc k)) (referenceAt ms (suc k))
+  -- the counts are those of the marks: S cuts, B back-steps and n − 1 jumps, and no pair is anything else
+  pub kinds : (c .cuts ≡ marksOf cutKind ms) × (c .«back_steps» ≡ marksOf backStepKind ms) × (c .jumps ≡ marksOf jumpKind ms)
+  pub cuts : c .cuts ≡ segmentCount p
+  pub jumps : c .jumps + 1 ≡ contourCount p
+  pub all : c .points ≡ segmentCount p + c .«back_steps» + contourCount p
+  -- each segment of each contour is cut exactly once
+  pub once : (d : Contour) → IsContour p d → (i : ℕ) → i < d .last → cutsOf (d .first + i) ms ≡ 1
+
+-- What the retrace call finishes, with one contour or more: path and marks are those of document 01's rules, and they divide as said.
+unfoldable pub PathStatement : Type 0
+PathStatement =
+    (p : Plate) (path : List Float) (ms : List ℕ) (w d : ℕ) (c : Counts) →
+    let o = retraceCall p path ms w d in
+    let r = retrace p in
+    o .answer ≡ gives c →
+    1 ≤ contourCount p →
+    (c ≡ counts r)
+    × (o .path ≡ coordinates (p .points) (vertices r) ++ drop (2 * c .points) path)
+    × (o .marks ≡ marks r ++ drop (2 * c .points) ms)
+    × Divides p c (take (2 * c .points) (o .path)) (take (2 * c .points) (o .marks))

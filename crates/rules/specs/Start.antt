@@ -1,0 +1,41 @@
+-- "Start" of document 01. Definitions only.
+use Prim.Native.Nat.{ℕ}
+use mathlib.Core.Bool.{Bool, true, false}
+use mathlib.Core.List.{List, [], _∷_}
+use mathlib.Core.Option.{Option}
+use lib.IntN.{pos}
+use lib.Ieee.{Float, fin, binary64, ofInt, div, lt}
+use Rattle.rules.specs.Tools.{pick, winner}
+use Rattle.rules.specs.HandedOver.{Plate, Contour, contours, vertexAt}
+use Rattle.rules.specs.Distances.{distanceSquared}
+use Rattle.rules.specs.declared.Point.{Point}
+use Rattle.rules.specs.declared.StartPointStrategy.{StartPointStrategy}
+use Rattle.rules.specs.declared.StartPointStrategy.the-variants.{Outside, Inside}
+
+unfoldable pub half : ℕ → Float
+half n = div binary64 (ofInt binary64 (pos n)) (fin false 1 (pos 1))
+
+unfoldable pub centre : ℕ → ℕ → Point
+centre width height = record { x = half width; y = half height }
+
+-- A contour in one of its two senses, and the squared distance from some point to the end that then comes first.
+pub record Oriented : Type 0 where
+  pub contour : Contour
+  pub reversed : Bool
+  pub squared : Float
+
+unfoldable pub oriented : Plate → Point → Bool → Contour → Oriented
+oriented p q r c = record { contour = c; reversed = r; squared = distanceSquared q (vertexAt p c (pick r (c .last) 0)) }
+
+-- contours in order, first point before last
+unfoldable pub ends : Plate → Point → List Contour → List Oriented
+ends p q [] = []
+ends p q (c ∷ cs) = oriented p q false c ∷ oriented p q true c ∷ ends p q cs
+
+-- Outside takes a strictly larger squared distance, Inside a strictly smaller one
+unfoldable pub beats : StartPointStrategy → Oriented → Oriented → Bool
+beats Outside new best = lt (best .squared) (new .squared)
+beats Inside new best = lt (new .squared) (best .squared)
+
+unfoldable pub start : Plate → Option Oriented
+start p = winner (beats (p .strategy)) (ends p (centre (p .width) (p .height)) (contours p))

@@ -1,0 +1,4 @@
+//! What the differential run and the benchmark share.
+
+pub mod leaves;
+pub mod random;

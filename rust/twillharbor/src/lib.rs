@@ -1,0 +1,45 @@
+//! Twillharbor joins disconnected contours to one path that a machine can draw
+//! without lifting its stylus.
+//!
+//! The work is done by a static library that was proved to give what document 01
+//! of the project defines. This crate calls it: it turns slices and results into
+//! Rust's types and a refusal into an error. It computes nothing itself.
+
+#![deny(unsafe_code)]
+
+mod c;
+mod refusal;
+
+pub use refusal::Refusal;
+
+/// A point of the plate.
+#[derive(Debug, Clone, Copy, PartialEq)]
+pub struct Point {
+    /// Horizontal position.
+    pub x: f64,
+    /// Vertical position.
+    pub y: f64,
+}
+
+/// What lies between two points.
+#[derive(Debug, Clone, Copy, PartialEq)]
+pub struct Distances {
+    /// The squared distance dx × dx + dy × dy: dx and dy are the rounded differences,
+    /// dy × dy is rounded, and then the sum is rounded once.
+    pub squared: f64,
+    /// The correctly rounded square root of [`squared`](Self::squared).
+    pub plain: f64,
+}
+
+/// The squared and the plain distance of two points.
+///
+/// # Errors
+///
+/// [`Refusal::OffThePlate`] where a coordinate is NaN, infinite or of magnitude above
+/// 2,147,483,648; its place is 0 for `a.x`, 1 for `a.y`, 2 for `b.x`, 3 for `b.y`, and
+/// the first of these counts.
+pub fn distance(a: Point, b: Point) -> Result<Distances, Refusal> {
+    let result = c::twillharbor_distance(a.x, a.y, b.x, b.y);
+    refusal::accepted(result.number, result.place)?;
+    Ok(Distances { squared: result.squared, plain: result.plain })
+}

@@ -1,15 +1,15 @@
 -- The marked plates of document 01, as rows of one table that one theorem covers. Rows A to I come first. The rows after them have no letter; each tells a
--- mistake apart, which its comment names, and which no earlier row refuses.
--- None of the expected values comes from the definitions. Paths, orders, starts, distances and grids are what the Rust gives for these plates, its functions
--- unchanged; marks are those of a separate transcription of it that writes marks too and has the same paths; counts are the numbers of those marks;
--- refusals, places and what a slice then holds are document 01's, worked out by hand.
+-- mistake apart that its comment names.
+-- No expected value comes from the definitions. Paths, orders, starts, distances and grids are what the Rust gives for these plates, its functions unchanged.
+-- Marks are those of a separate transcription of the Rust that writes marks too, its paths being equal to the Rust's; counts are how many marks there are
+-- of a kind. Refusals, their places and what the slices then hold follow document 01's text, worked out by hand.
 use mathlib.Core.Path.{_≡_, refl}
 use Prim.Native.Nat.{ℕ, zero, suc, _+_, _*_, _^_}
 use mathlib.Core.Bool.{Bool, true, false}
 use mathlib.Core.List.{List, [], _∷_, _++_, map}
 use lib.IntN.{pos, negsuc}
 use lib.ListN.{length, replicate}
-use lib.Ieee.{Float, nan, inf, fin, binary64, round, size, units, odd, neg, add, sub, mul, div, rem, lt, eq, le, ofInt, toUnsigned}
+use lib.Ieee.{Float, nan, inf, fin, binary64, round, neg, add, sub, mul, div, rem, le, ofInt, toUnsigned}
 use Rattle.rules.specs.Tools.{pick, sum, without, leads, winner, lesser, greater}
 use Rattle.rules.specs.HandedOver.{Plate, plate, at, contoursFrom, contours, vertexAt, orderRoom, straightRoom, retraceRoom}
 use Rattle.rules.specs.HandedOver.{Answer, gives, refuses, inRange, plateLimit, distanceLimit, firstOff, refuseIf, checked, orderWork, retraceWork}
@@ -31,9 +31,6 @@ use Rattle.rules.specs.declared.Counts.{Counts}
 use Rattle.rules.specs.declared.StartPointStrategy.{StartPointStrategy}
 use Rattle.rules.specs.declared.StartPointStrategy.the-variants.{Outside, Inside}
 
-infixr 2 _∣_
-infix 90 _⇒_
-
 -- ---- numbers
 
 -- n, n / 10^k and n / 2^k, each as the nearest float
@@ -49,6 +46,9 @@ binary n k = round binary64 false n (2 ^ k)
 tenths : ℕ → Float
 tenths n = decimal n 1
 
+minusTenths : ℕ → Float
+minusTenths n = neg (tenths n)
+
 hundredths : ℕ → Float
 hundredths n = decimal n 2
 
@@ -61,42 +61,29 @@ sixteenths n = binary n 4
 sixtyFourths : ℕ → Float
 sixtyFourths n = binary n 6
 
-same : {A : Type 0} → A → A
-same x = x
-
--- a number, and a float, itself: computed, so that two that differ are told apart at once
-numeral : ℕ → ℕ
-numeral zero = zero
-numeral (suc n) = suc n
-
-computed : Float → Float
-computed nan = nan
-computed (inf s) = inf s
-computed (fin s m (pos k)) = fin s (numeral m) (pos (numeral k))
-computed (fin s m (negsuc k)) = fin s (numeral m) (negsuc (numeral k))
-
 -- ---- plates and slices
 
 -- contours between bars
-_∣_ : {A : Type 0} → List A → List (List A) → List (List A)
+infixr 2 _∣_
+_∣_ : List (ℕ × ℕ) → List (List (ℕ × ℕ)) → List (List (ℕ × ℕ))
 c ∣ cs = c ∷ cs
 
 -- points (x, y), in some unit, as an f64 slice has them
-along : {A : Type 0} → (A → Float) → List (A × A) → List Float
+along : (ℕ → Float) → List (ℕ × ℕ) → List Float
 along unit [] = []
 along unit (p ∷ ps) = unit (p .0) ∷ unit (p .1) ∷ along unit ps
 
-contourPoints : {A : Type 0} → (A → Float) → List (List (A × A)) → List Float
-contourPoints unit [] = []
-contourPoints unit (c ∷ cs) = along unit c ++ contourPoints unit cs
+pointsOf : (ℕ → Float) → List (List (ℕ × ℕ)) → List Float
+pointsOf unit [] = []
+pointsOf unit (c ∷ cs) = along unit c ++ pointsOf unit cs
 
--- contours drawn in some unit, width by height
-drawn : {A : Type 0} → (A → Float) → List (List (A × A)) → ℕ → ℕ → StartPointStrategy → Plate
-drawn unit cs w h s = plate (contourPoints unit cs) (map length cs) w h s
+-- contours drawn in some unit; width by height
+drawn : (ℕ → Float) → List (List (ℕ × ℕ)) → ℕ → ℕ → StartPointStrategy → Plate
+drawn unit cs w h s = plate (pointsOf unit cs) (map length cs) w h s
 
 -- points and lengths as they are handed over, right or wrong
-slices : List ℕ → List ℕ → Plate
-slices xs ns = plate (map whole xs) ns 0 0 Outside
+handed : List Float → List ℕ → Plate
+handed xs ns = plate xs ns 0 0 Outside
 
 point : Float → Float → Point
 point a b = record { x = a; y = b }
@@ -128,13 +115,13 @@ joined n s b j = gives (record { points = n; cuts = s; «back_steps» = b; jumps
 -- what is asked; slices by how many numbers they have
 pub data Call : Type 0 where
   distanceOf : Point → Point → Call
-  -- not a call: the squared distance that comes of rounding both products, then their sum
+  -- not a call: the squared distance with both products rounded, and then their sum
   twoRoundings : Point → Point → Call
   startOn : Plate → Call
   orderOn : Plate → (slice work : ℕ) → Call
   straightOn : Plate → (path work : ℕ) → Call
   retraceOn : Plate → (path marks work distances : ℕ) → Call
-  -- not a call: C, for output slices of so many numbers
+  -- not a call: C for output slices of so many numbers
   roomIn : ℕ → Call
   -- not a call: the grid of a plate
   gridOn : Plate → Call
@@ -156,10 +143,11 @@ pub record Row : Type 0 where
   pub call : Call
   pub reply : Reply
 
+infix 90 _⇒_
 _⇒_ : Call → Reply → Row
 c ⇒ r = record { call = c; reply = r }
 
--- the calls with room for C points or entries, and work enough
+-- the calls with room for C entries or points, and work enough
 orderIn : ℕ → Plate → Call
 orderIn c p = orderOn p (2 * c) 100000
 
@@ -173,13 +161,36 @@ retraceIn c p = retraceOn p (2 * c) (2 * c) 100000 100000
 retraces : Plate → List Float → List (ℕ × ℕ) → Answer Counts → Row
 retraces p path ms c = retraceIn (length ms) p ⇒ retraced c path (pairs ms)
 
-computedDistances : Answer (Float × Float) → Answer (Float × Float)
-computedDistances (gives d) = gives (computed (d .0), computed (d .1))
-computedDistances (refuses number place) = refuses number place
+-- A float itself, with its numbers computed: what the definitions give passes through this, so that a check that fails does so at once.
+numeral : ℕ → ℕ
+numeral zero = zero
+numeral (suc n) = suc n
 
--- what the definitions say
+pub computed : Float → Float
+computed nan = nan
+computed (inf s) = inf s
+computed (fin s m (pos k)) = fin s (numeral m) (pos (numeral k))
+computed (fin s m (negsuc k)) = fin s (numeral m) (negsuc (numeral k))
+
+numeral-is : (n : ℕ) → numeral n ≡ n
+unfolding numeral
+numeral-is zero = refl
+numeral-is (suc n) = refl
+
+pub computed-is : (x : Float) → computed x ≡ x
+unfolding computed
+computed-is nan = refl
+computed-is (inf s) = refl
+computed-is (fin s m (pos k)) = rw (numeral-is m, numeral-is k) refl
+computed-is (fin s m (negsuc k)) = rw (numeral-is m, numeral-is k) refl
+
+bothComputed : Answer (Float × Float) → Answer (Float × Float)
+bothComputed (gives d) = gives (computed (d .0), computed (d .1))
+bothComputed (refuses number place) = refuses number place
+
+-- what the definitions reply
 pub replyTo : Call → Reply
-replyTo (distanceOf a b) = distances (computedDistances (distanceCall a b))
+replyTo (distanceOf a b) = distances (bothComputed (distanceCall a b))
 replyTo (twoRoundings a b) =
     let dx = sub binary64 (a .x) (b .x) in
     let dy = sub binary64 (a .y) (b .y) in
@@ -225,12 +236,13 @@ I = point (binary (2 ^ 27 + 1) 27) (binary 5 29)
 skipping : Plate
 skipping = drawn whole ([] ∣ (0, 0) ∷ (4, 0) ∷ [] ∣ [] ∣ (9, 0) ∷ (5, 0) ∷ [] ∣ (1, 1) ∷ (1, 2) ∷ [] ∣ (9, 1) ∷ [] ∣ []) 0 0 Inside
 
--- the next f64 above 1,000,000, and above 2^31
-aboveMillion : Float
-aboveMillion = binary (1000000 * 2 ^ 33 + 1) 33
+-- the next f64 above 1,000,000, and above 2,147,483,648
+abovePlateLimit : Float
+abovePlateLimit = binary (1000000 * 2 ^ 33 + 1) 33
 
-abovePower : Float
-abovePower = binary (2 ^ 52 + 1) 21
+aboveDistanceLimit : Float
+aboveDistanceLimit = binary (2 ^ 52 + 1) 21
+
 -- ---- the table
 
 pub table : List Row
@@ -291,22 +303,22 @@ table =
     ∷ distanceOf zeroPoint (point (binary 3 538) (whole 0)) ⇒ distances (gives (binary 1 1073, binary 6369051672525773 589))
     -- a magnitude of 2,147,483,648 passes, and the next f64 above gets 4; so do an infinity and a NaN; the first of two gives the place
     ∷ distanceOf (point (whole (2 ^ 31)) (whole 0)) (point (neg (whole (2 ^ 31))) (whole 0)) ⇒ distances (gives (whole (2 ^ 64), whole (2 ^ 32)))
-    ∷ distanceOf (point (whole 0) (whole 0)) (point (abovePower) (whole 0)) ⇒ distances (refuses 4 2)
-    ∷ distanceOf (point (whole 0) (neg abovePower)) (point (whole 0) (inf false)) ⇒ distances (refuses 4 1)
-    ∷ distanceOf (point (inf true) (whole 0)) (point (whole 0) (whole 0)) ⇒ distances (refuses 4 0)
-    ∷ distanceOf (point (whole 0) (whole 0)) (point (whole 0) nan) ⇒ distances (refuses 4 3)
+    ∷ distanceOf zeroPoint (point aboveDistanceLimit (whole 0)) ⇒ distances (refuses 4 2)
+    ∷ distanceOf (point (whole 0) (neg aboveDistanceLimit)) (point (whole 0) (inf false)) ⇒ distances (refuses 4 1)
+    ∷ distanceOf (point (inf true) (whole 0)) zeroPoint ⇒ distances (refuses 4 0)
+    ∷ distanceOf zeroPoint (point (whole 0) nan) ⇒ distances (refuses 4 3)
     -- ---- start
     -- contour numbers count skipped contours
     ∷ startOn (drawn whole ([] ∣ (0, 0) ∷ (4, 0) ∷ [] ∣ []) 10 10 Inside) ⇒ starts (gives (1, reversed))
     -- the centre of an odd width, and of an odd height, is not a whole number: 3.5 is as far from 3 as from 4
     ∷ startOn (drawn whole ((3, 0) ∷ (4, 0) ∷ [] ∣ []) 7 0 Outside) ⇒ starts (gives (0, forward))
     ∷ startOn (drawn whole ((0, 3) ∷ (0, 4) ∷ [] ∣ []) 0 7 Outside) ⇒ starts (gives (0, forward))
-    -- of equal ones in two contours the first wins, for both strategies
+    -- of equal ends in two contours the first wins, for both strategies
     ∷ startOn (drawn whole ((1, 0) ∷ [] ∣ (0, 1) ∷ [] ∣ []) 0 0 Outside) ⇒ starts (gives (0, forward))
     ∷ startOn (drawn whole ((1, 0) ∷ [] ∣ (0, 1) ∷ [] ∣ []) 0 0 Inside) ⇒ starts (gives (0, forward))
     -- only ends count, and a later contour can win
     ∷ startOn (drawn whole ((1, 0) ∷ (2, 0) ∷ [] ∣ (3, 0) ∷ (9, 9) ∷ (5, 0) ∷ [] ∣ []) 0 0 Outside) ⇒ starts (gives (1, reversed))
-    -- squared distances with both products rounded would be equal here
+    -- with both products rounded the two would be equal, and the first would win
     ∷ startOn (drawn tenths ((7, 4) ∷ [] ∣ (4, 7) ∷ [] ∣ []) 0 0 Inside) ⇒ starts (gives (1, forward))
     -- ---- grid and nearest
     -- cell size, columns and rows: s is no less than 1 / 50; 54 columns, the most that there are
@@ -334,42 +346,37 @@ table =
     (along sixteenths ((0, 0) ∷ (800, 8) ∷ (193, 8) ∷ (152, 8) ∷ (193, 8) ∷ (175, 8) ∷ []))
     ((0, 0) ∷ (1, 0) ∷ (1, 1) ∷ (1, 2) ∷ (2, 2) ∷ (3, 4) ∷ [])
     (joined 6 3 1 1)
-    -- the bound is (r − 1) × s, with whole numbers
+    -- the same in whole numbers
     ∷ retraces (drawn whole ((0, 2) ∷ (2, 0) ∷ (1, 0) ∷ (3, 1) ∷ [] ∣ (3, 0) ∷ [] ∣ []) 0 0 Outside)
     (along whole ((3, 1) ∷ (1, 0) ∷ (2, 0) ∷ (0, 2) ∷ (2, 0) ∷ (3, 0) ∷ []))
     ((0, 3) ∷ (1, 2) ∷ (1, 1) ∷ (1, 0) ∷ (2, 2) ∷ (3, 4) ∷ [])
     (joined 6 3 1 1)
-    -- a ring whose bound equals the best is still searched; the bound is (r − 1) × s squared, not s squared × (r − 1) squared
+    -- a ring whose bound equals the best is still searched; the bound is the square of (r − 1) × s, rounded before it is squared
     ∷ retraces (drawn hundredths ((0, 0) ∷ (24, 0) ∷ [] ∣ (12, 0) ∷ [] ∣ []) 0 0 Inside)
     (along hundredths ((0, 0) ∷ (24, 0) ∷ (12, 0) ∷ []))
     ((0, 0) ∷ (1, 0) ∷ (3, 2) ∷ [])
     (joined 3 1 0 1)
-    -- ring 2 is left where its bound is above the best, though by rounded cell edges it holds a nearer point
+    -- ring 2 is left where its bound is above the best, though by rounded cell edges it holds a point as near and later
     ∷ retraces (drawn thousandths ((71, 2) ∷ (31, 2) ∷ [] ∣ (51, 2) ∷ [] ∣ []) 0 0 Inside)
     (along thousandths ((31, 2) ∷ (71, 2) ∷ (31, 2) ∷ (51, 2) ∷ []))
     ((0, 1) ∷ (1, 0) ∷ (2, 0) ∷ (3, 2) ∷ [])
     (joined 4 1 1 1)
-    -- the bound is not that of ring 3 at ring 2
-    ∷ retraces (drawn tenths ((11, 0) ∷ (311, 0) ∷ (23, 0) ∷ [] ∣ (17, 0) ∷ [] ∣ []) 0 0 Inside)
-    (along tenths ((11, 0) ∷ (311, 0) ∷ (23, 0) ∷ (311, 0) ∷ (11, 0) ∷ (17, 0) ∷ []))
-    ((0, 0) ∷ (1, 0) ∷ (1, 1) ∷ (2, 1) ∷ (2, 0) ∷ (3, 3) ∷ [])
-    (joined 6 2 2 1)
     -- the column is by (x − origin) × (1 / s), not by (x − origin) / s
     ∷ retraces (drawn hundredths ((13, 0) ∷ (29, 0) ∷ [] ∣ (21, 0) ∷ [] ∣ []) 8 0 Outside)
     (along hundredths ((13, 0) ∷ (29, 0) ∷ (21, 0) ∷ []))
     ((0, 0) ∷ (1, 0) ∷ (3, 2) ∷ [])
     (joined 3 1 0 1)
-    -- the same, with negative coordinates
-    ∷ retraces (drawn same ((neg (decimal 5 1), neg (decimal 5 1)) ∷ (decimal 5 1, decimal 5 1) ∷ (decimal 6811289305114243 17, decimal 9999999999999992 17) ∷ (decimal 1281128930511424 16, decimal 15999999999999986 17) ∷ [] ∣ (decimal 6811289305114243 17, decimal 15999999999999986 17) ∷ [] ∣ []) 0 0 Outside)
-    (along same ((neg (decimal 5 1), neg (decimal 5 1)) ∷ (decimal 5 1, decimal 5 1) ∷ (decimal 6811289305114243 17, decimal 9999999999999992 17) ∷ (decimal 1281128930511424 16, decimal 15999999999999986 17) ∷ (decimal 6811289305114243 17, decimal 15999999999999986 17) ∷ []))
-    ((0, 0) ∷ (1, 0) ∷ (1, 1) ∷ (1, 2) ∷ (3, 4) ∷ [])
-    (joined 5 3 0 1)
+    -- the same, with negative coordinates, and −0
+    ∷ retraces (drawn minusTenths ((11, 0) ∷ (61, 0) ∷ (19, 0) ∷ [] ∣ (15, 0) ∷ [] ∣ []) 0 0 Outside)
+    (along minusTenths ((19, 0) ∷ (61, 0) ∷ (11, 0) ∷ (61, 0) ∷ (19, 0) ∷ (15, 0) ∷ []))
+    ((0, 2) ∷ (1, 1) ∷ (1, 0) ∷ (2, 1) ∷ (2, 0) ∷ (3, 3) ∷ [])
+    (joined 6 2 2 1)
     -- dy × dy alone is rounded before the sum
     ∷ retraces (drawn hundredths ((600, 0) ∷ (10, 4) ∷ [] ∣ (2, 0) ∷ [] ∣ (0, 0) ∷ (6, 2) ∷ (8, 10) ∷ (8, 8) ∷ (12, 6) ∷ (4, 6) ∷ [] ∣ []) 0 0 Outside)
     (along hundredths ((600, 0) ∷ (10, 4) ∷ (4, 6) ∷ (12, 6) ∷ (8, 8) ∷ (8, 10) ∷ (6, 2) ∷ (0, 0) ∷ (2, 0) ∷ []))
     ((0, 0) ∷ (1, 0) ∷ (3, 8) ∷ (1, 7) ∷ (1, 6) ∷ (1, 5) ∷ (1, 4) ∷ (1, 3) ∷ (3, 2) ∷ [])
     (joined 9 6 0 2)
-    -- 50 cells, and a margin of one cell
+    -- 50 cells, not 40 or 51
     ∷ retraces (drawn whole ((87, 1) ∷ [] ∣ (3, 1) ∷ [] ∣ (89, 0) ∷ [] ∣ (46, 1) ∷ [] ∣ []) 100 0 Inside)
     (along whole ((46, 1) ∷ (87, 1) ∷ (46, 1) ∷ (3, 1) ∷ (46, 1) ∷ (87, 1) ∷ (89, 0) ∷ []))
     ((0, 3) ∷ (3, 0) ∷ (2, 0) ∷ (3, 1) ∷ (2, 2) ∷ (2, 1) ∷ (3, 2) ∷ [])
@@ -390,7 +397,7 @@ table =
     (along whole ((9, 0) ∷ (74, 0) ∷ (11, 32) ∷ (74, 0) ∷ (47, 2) ∷ (47, 1) ∷ (45, 2) ∷ []))
     ((0, 0) ∷ (1, 0) ∷ (1, 1) ∷ (2, 1) ∷ (3, 3) ∷ (1, 3) ∷ (1, 4) ∷ [])
     (joined 7 4 1 1)
-    -- s is a fiftieth
+    -- s is a fiftieth of the box, not a fortieth
     ∷ retraces (drawn whole ((59, 0) ∷ (60, 1) ∷ (59, 1) ∷ [] ∣ (99, 0) ∷ [] ∣ (34, 0) ∷ [] ∣ []) 100 0 Outside)
     (along whole ((99, 0) ∷ (60, 1) ∷ (59, 1) ∷ (60, 1) ∷ (59, 0) ∷ (34, 0) ∷ []))
     ((0, 3) ∷ (3, 1) ∷ (1, 1) ∷ (2, 1) ∷ (1, 0) ∷ (3, 4) ∷ [])
@@ -425,17 +432,17 @@ table =
     (along whole ((1, 2) ∷ (0, 0) ∷ (0, 0) ∷ (2, 0) ∷ []))
     ((0, 3) ∷ (3, 0) ∷ (3, 2) ∷ (1, 1) ∷ [])
     (joined 4 1 0 2)
-    -- the listed cells are those within 1: the cells around
+    -- the listed cells are those within 1: not the own cell alone
     ∷ retraces (drawn whole ((6, 1) ∷ [] ∣ (44, 1) ∷ [] ∣ (5, 1) ∷ [] ∣ (25, 1) ∷ [] ∣ []) 50 0 Inside)
     (along whole ((25, 1) ∷ (6, 1) ∷ (5, 1) ∷ (6, 1) ∷ (25, 1) ∷ (44, 1) ∷ []))
     ((0, 3) ∷ (3, 0) ∷ (3, 2) ∷ (2, 1) ∷ (2, 0) ∷ (3, 1) ∷ [])
     (joined 6 0 2 3)
-    -- in the row above too
-    ∷ retraces (drawn whole ((1, 6) ∷ [] ∣ (1, 44) ∷ [] ∣ (1, 5) ∷ [] ∣ (1, 25) ∷ [] ∣ []) 0 50 Inside)
-    (along whole ((1, 25) ∷ (1, 6) ∷ (1, 5) ∷ (1, 6) ∷ (1, 25) ∷ (1, 44) ∷ []))
+    -- the row above too
+    ∷ retraces (drawn whole ((1, 75) ∷ [] ∣ (1, 25) ∷ [] ∣ (1, 77) ∷ [] ∣ (1, 50) ∷ [] ∣ []) 0 100 Inside)
+    (along whole ((1, 50) ∷ (1, 75) ∷ (1, 77) ∷ (1, 75) ∷ (1, 50) ∷ (1, 25) ∷ []))
     ((0, 3) ∷ (3, 0) ∷ (3, 2) ∷ (2, 1) ∷ (2, 0) ∷ (3, 1) ∷ [])
     (joined 6 0 2 3)
-    -- and not those within 2
+    -- not those within 2
     ∷ retraces (drawn whole ((23, 3) ∷ [] ∣ (22, 3) ∷ (23, 5) ∷ [] ∣ (50, 2) ∷ [] ∣ []) 50 0 Outside)
     (along whole ((50, 2) ∷ (23, 3) ∷ (23, 5) ∷ (22, 3) ∷ []))
     ((0, 3) ∷ (3, 0) ∷ (3, 2) ∷ (1, 1) ∷ [])
@@ -465,12 +472,12 @@ table =
     (along whole ((0, 1) ∷ (27, 1) ∷ (28, 1) ∷ (27, 2) ∷ []))
     ((0, 3) ∷ (3, 0) ∷ (3, 2) ∷ (1, 1) ∷ [])
     (joined 4 1 0 2)
-    -- rows upward
+    -- rows from the lowest
     ∷ retraces (drawn whole ((8, 1) ∷ [] ∣ (8, 2) ∷ (7, 1) ∷ [] ∣ (50, 1) ∷ [] ∣ []) 8 0 Outside)
     (along whole ((50, 1) ∷ (8, 1) ∷ (7, 1) ∷ (8, 2) ∷ []))
     ((0, 3) ∷ (3, 0) ∷ (3, 2) ∷ (1, 1) ∷ [])
     (joined 4 1 0 2)
-    -- columns upward
+    -- columns from the lowest
     ∷ retraces (drawn whole ((50, 0) ∷ [] ∣ (8, 0) ∷ (7, 0) ∷ [] ∣ (7, 0) ∷ (8, 0) ∷ [] ∣ []) 8 0 Outside)
     (along whole ((50, 0) ∷ (8, 0) ∷ (7, 0) ∷ (7, 0) ∷ (8, 0) ∷ []))
     ((0, 0) ∷ (3, 1) ∷ (1, 1) ∷ (3, 3) ∷ (1, 3) ∷ [])
@@ -480,7 +487,7 @@ table =
     (along whole ((29, 1) ∷ (0, 1) ∷ (0, 2) ∷ (0, 1) ∷ (0, 1) ∷ (0, 2) ∷ []))
     ((0, 2) ∷ (3, 1) ∷ (1, 0) ∷ (2, 1) ∷ (3, 3) ∷ (1, 3) ∷ [])
     (joined 6 2 1 2)
-    -- within a cell by vertex upward
+    -- within a cell from the lowest vertex
     ∷ retraces (drawn whole ((0, 1) ∷ (0, 1) ∷ [] ∣ (0, 2) ∷ [] ∣ (34, 3) ∷ [] ∣ []) 0 0 Outside)
     (along whole ((34, 3) ∷ (0, 2) ∷ (0, 1) ∷ (0, 1) ∷ []))
     ((0, 3) ∷ (3, 2) ∷ (3, 0) ∷ (1, 0) ∷ [])
@@ -491,11 +498,16 @@ table =
     (along whole ((1, 8) ∷ (7, 2) ∷ (7, 0) ∷ []))
     ((0, 0) ∷ (3, 2) ∷ (3, 1) ∷ [])
     (joined 3 0 0 2)
-    -- a return to e of two steps
-    ∷ retraces (drawn whole ((4, 0) ∷ [] ∣ (0, 1) ∷ (4, 1) ∷ (8, 1) ∷ (12, 1) ∷ [] ∣ []) 8 0 Inside)
-    (along whole ((4, 0) ∷ (4, 1) ∷ (8, 1) ∷ (12, 1) ∷ (8, 1) ∷ (4, 1) ∷ (0, 1) ∷ []))
-    ((0, 0) ∷ (3, 2) ∷ (1, 2) ∷ (1, 3) ∷ (2, 2) ∷ (2, 1) ∷ (1, 1) ∷ [])
-    (joined 7 3 2 1)
+    -- a return to e of two steps, after a walk-back: its references are places of the path
+    ∷ retraces (drawn whole ((4, 0) ∷ (13, 0) ∷ [] ∣ (0, 1) ∷ (4, 1) ∷ (8, 1) ∷ (12, 1) ∷ [] ∣ []) 8 0 Inside)
+    (along whole ((4, 0) ∷ (13, 0) ∷ (4, 0) ∷ (4, 1) ∷ (8, 1) ∷ (12, 1) ∷ (8, 1) ∷ (4, 1) ∷ (0, 1) ∷ []))
+    ((0, 0) ∷ (1, 0) ∷ (2, 0) ∷ (3, 3) ∷ (1, 3) ∷ (1, 4) ∷ (2, 4) ∷ (2, 3) ∷ (1, 2) ∷ [])
+    (joined 9 4 3 1)
+    -- contours that hold no point are skipped, and are no jumps
+    ∷ retraces skipping
+    (along whole ((0, 0) ∷ (4, 0) ∷ (5, 0) ∷ (9, 0) ∷ (5, 0) ∷ (4, 0) ∷ (0, 0) ∷ (1, 1) ∷ (1, 2) ∷ (1, 1) ∷ (0, 0) ∷ (4, 0) ∷ (5, 0) ∷ (9, 0) ∷ (9, 1) ∷ []))
+    ((0, 0) ∷ (1, 0) ∷ (3, 3) ∷ (1, 2) ∷ (2, 2) ∷ (2, 1) ∷ (2, 0) ∷ (3, 4) ∷ (1, 4) ∷ (2, 7) ∷ (2, 6) ∷ (2, 5) ∷ (2, 4) ∷ (2, 3) ∷ (3, 6) ∷ [])
+    (joined 15 3 8 3)
     -- ---- order and straight
     -- forward where forward ≤ reverse: an equal distance reverses nothing
     ∷ orderIn 2 (drawn whole ((0, 0) ∷ [] ∣ (1, 0) ∷ (0, 1) ∷ [] ∣ []) 0 0 Inside) ⇒ ordered (gives 2) (pairs ((0, 0) ∷ (1, 0) ∷ []))
@@ -510,28 +522,30 @@ table =
     ⇒ straightened (gives 7) (along whole ((0, 0) ∷ (4, 0) ∷ (5, 0) ∷ (9, 0) ∷ (9, 1) ∷ (1, 1) ∷ (1, 2) ∷ []))
     -- ---- refusals
     -- 1: M 4,097 gets it, before 2, before 5 and before 7; M 4,096 passes
-    ∷ startOn (slices [] (replicate 4097 0)) ⇒ starts (refuses 1 0)
-    ∷ startOn (slices [] (65537 ∷ replicate 4096 0)) ⇒ starts (refuses 1 0)
-    ∷ retraceOn (slices [] (replicate 4097 0)) 3 2 0 0 ⇒ retraced (refuses 1 0) (unwrittenPath 3) (unwritten 2)
-    ∷ retraceOn (slices [] (replicate 4096 0)) 3 2 (1 + 8 * 4096 + 16384) 4096 ⇒ retraced (joined 0 0 0 0) (unwrittenPath 3) (unwritten 2)
-    -- 2: P 65,537 gets it, before 3; the sum does not wrap at 2^32
-    ∷ startOn (slices [] (65537 ∷ [])) ⇒ starts (refuses 2 0)
-    ∷ startOn (slices (0 ∷ 0 ∷ []) (4294967295 ∷ 2 ∷ [])) ⇒ starts (refuses 2 0)
-    -- 3: P 65,536 passes 2; a number too many, and one too few, and before 4 and 7
-    ∷ startOn (slices [] (65536 ∷ [])) ⇒ starts (refuses 3 0)
-    ∷ startOn (slices (0 ∷ 0 ∷ 0 ∷ []) (1 ∷ [])) ⇒ starts (refuses 3 0)
-    ∷ startOn (plate (nan ∷ []) (1 ∷ []) 0 0 Outside) ⇒ starts (refuses 3 0)
-    ∷ startOn (slices (0 ∷ 0 ∷ []) []) ⇒ starts (refuses 3 0)
+    ∷ startOn (handed [] (replicate 4097 0)) ⇒ starts (refuses 1 0)
+    ∷ startOn (handed [] (65537 ∷ replicate 4096 0)) ⇒ starts (refuses 1 0)
+    ∷ retraceOn (handed [] (replicate 4097 0)) 3 2 0 0 ⇒ retraced (refuses 1 0) (unwrittenPath 3) (unwritten 2)
+    ∷ retraceOn (handed [] (replicate 4096 0)) 3 2 (1 + 8 * 4096 + 16384) 4096 ⇒ retraced (joined 0 0 0 0) (unwrittenPath 3) (unwritten 2)
+    -- 2: P 65,537 gets it, before 3 and 5; the sum does not wrap at 2^32
+    ∷ startOn (handed [] (65537 ∷ [])) ⇒ starts (refuses 2 0)
+    ∷ startOn (handed (whole 0 ∷ whole 0 ∷ []) (4294967295 ∷ 2 ∷ [])) ⇒ starts (refuses 2 0)
+    ∷ retraceOn (handed [] (65537 ∷ [])) 3 2 0 0 ⇒ retraced (refuses 2 0) (unwrittenPath 3) (unwritten 2)
+    -- 3: P 65,536 passes 2; a number too many, and one too few; before 4, 5 and 7
+    ∷ startOn (handed [] (65536 ∷ [])) ⇒ starts (refuses 3 0)
+    ∷ startOn (handed (whole 0 ∷ whole 0 ∷ whole 0 ∷ []) (1 ∷ [])) ⇒ starts (refuses 3 0)
+    ∷ startOn (handed (nan ∷ []) (1 ∷ [])) ⇒ starts (refuses 3 0)
+    ∷ startOn (handed (whole 0 ∷ whole 0 ∷ []) []) ⇒ starts (refuses 3 0)
+    ∷ retraceOn (handed [] (1 ∷ [])) 3 2 0 0 ⇒ retraced (refuses 3 0) (unwrittenPath 3) (unwritten 2)
     -- 4: a magnitude of 1,000,000 passes, and the next f64 above gets 4; so do a NaN and an infinity; the first of two gives the place
-    ∷ startOn (plate (whole 1000000 ∷ neg (whole 1000000) ∷ []) (1 ∷ []) 0 0 Outside) ⇒ starts (gives (0, forward))
-    ∷ startOn (plate (whole 0 ∷ whole 0 ∷ whole 0 ∷ aboveMillion ∷ []) (2 ∷ []) 0 0 Outside) ⇒ starts (refuses 4 3)
-    ∷ startOn (plate (whole 0 ∷ whole 0 ∷ neg aboveMillion ∷ nan ∷ []) (2 ∷ []) 0 0 Outside) ⇒ starts (refuses 4 2)
-    ∷ startOn (plate (whole 0 ∷ nan ∷ inf false ∷ whole 0 ∷ []) (2 ∷ []) 0 0 Outside) ⇒ starts (refuses 4 1)
-    ∷ startOn (plate (inf true ∷ whole 0 ∷ []) (1 ∷ []) 0 0 Outside) ⇒ starts (refuses 4 0)
+    ∷ startOn (handed (whole 1000000 ∷ neg (whole 1000000) ∷ []) (1 ∷ [])) ⇒ starts (gives (0, forward))
+    ∷ startOn (handed (whole 0 ∷ whole 0 ∷ whole 0 ∷ abovePlateLimit ∷ []) (2 ∷ [])) ⇒ starts (refuses 4 3)
+    ∷ startOn (handed (whole 0 ∷ whole 0 ∷ neg abovePlateLimit ∷ nan ∷ []) (2 ∷ [])) ⇒ starts (refuses 4 2)
+    ∷ startOn (handed (whole 0 ∷ nan ∷ inf false ∷ whole 0 ∷ []) (2 ∷ [])) ⇒ starts (refuses 4 1)
+    ∷ startOn (handed (inf true ∷ whole 0 ∷ []) (1 ∷ [])) ⇒ starts (refuses 4 0)
     -- 4 comes before 5, in each call, and alters no slice
-    ∷ orderOn (plate (whole 0 ∷ nan ∷ []) (1 ∷ []) 0 0 Outside) 2 0 ⇒ ordered (refuses 4 1) (unwritten 2)
-    ∷ straightOn (plate (whole 0 ∷ nan ∷ []) (1 ∷ []) 0 0 Outside) 2 0 ⇒ straightened (refuses 4 1) (unwrittenPath 2)
-    ∷ retraceOn (plate (whole 0 ∷ nan ∷ []) (1 ∷ []) 0 0 Outside) 2 2 0 0 ⇒ retraced (refuses 4 1) (unwrittenPath 2) (unwritten 2)
+    ∷ orderOn (handed (whole 0 ∷ nan ∷ []) (1 ∷ [])) 2 0 ⇒ ordered (refuses 4 1) (unwritten 2)
+    ∷ straightOn (handed (whole 0 ∷ nan ∷ []) (1 ∷ [])) 2 0 ⇒ straightened (refuses 4 1) (unwrittenPath 2)
+    ∷ retraceOn (handed (whole 0 ∷ nan ∷ []) (1 ∷ [])) 2 2 0 0 ⇒ retraced (refuses 4 1) (unwrittenPath 2) (unwritten 2)
     -- 5: E with C = 6 needs 6 + 4 × 4 + 8 × 2 + 16,384 = 16,422 u32 and 2 f64; one short gets 5, u32 before f64, and alters no slice
     ∷ retraceOn E 12 12 16422 2
     ⇒ retraced (joined 6 2 2 1)
@@ -573,17 +587,18 @@ table =
     -- C is at most 1,048,576 for straight and retrace
     ∷ roomIn 2097154 ⇒ room 1048577 1048576 1048576
     -- 7: the start call only; a contour that holds no point is none
-    ∷ startOn (slices [] (0 ∷ 0 ∷ [])) ⇒ starts (refuses 7 0)
-    ∷ retraceIn 1 (slices [] (0 ∷ 0 ∷ [])) ⇒ retraced (joined 0 0 0 0) (unwrittenPath 2) (unwritten 2)
+    ∷ startOn (handed [] (0 ∷ 0 ∷ [])) ⇒ starts (refuses 7 0)
+    ∷ retraceIn 1 (handed [] (0 ∷ 0 ∷ [])) ⇒ retraced (joined 0 0 0 0) (unwrittenPath 2) (unwritten 2)
     ∷ []
 
--- each row's reply is what the definitions say
+-- each row's reply is what the definitions reply
 pub plates : map (λ r. replyTo (r .call)) table ≡ map (λ r. r .reply) table
 unfolding
-    table whole decimal binary tenths hundredths thousandths sixteenths sixtyFourths same numeral computed computedDistances _∣_ along contourPoints drawn slices point pairs unwritten unwrittenPath
-    forward reversed joined _⇒_ orderIn straightIn retraceIn retraces replyTo A B C D E F G zeroPoint I skipping aboveMillion abovePower
+    table whole decimal binary tenths minusTenths hundredths thousandths sixteenths sixtyFourths _∣_ along pointsOf drawn handed point pairs
+    unwritten unwrittenPath forward reversed joined _⇒_ orderIn straightIn retraceIn retraces numeral computed bothComputed replyTo
+    A B C D E F G zeroPoint I skipping abovePlateLimit aboveDistanceLimit
     -- floats
-    round size units odd neg add sub mul div rem lt eq le ofInt toUnsigned
+    neg add sub mul div rem le ofInt toUnsigned
     -- Tools, HandedOver
     pick sum without leads winner lesser greater plate at contoursFrom contours vertexAt orderRoom straightRoom retraceRoom
     inRange plateLimit distanceLimit firstOff refuseIf checked orderWork retraceWork fitted over after

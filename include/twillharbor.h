@@ -28,11 +28,13 @@
  * Slices. A slice is two arguments: the pointer to its first element, then the number
  * of its elements, a size_t. The pointer is aligned for its elements and not NULL, also
  * where that number is 0. A slice that the call writes overlaps no other slice of the
- * call. A truth value is a bool. (The distance call takes neither.)
+ * call. A truth value is a bool.
  */
 #ifndef TWILLHARBOR_H
 #define TWILLHARBOR_H
 
+#include <stdbool.h>
+#include <stddef.h>
 #include <stdint.h>
 
 #ifdef __cplusplus
@@ -65,6 +67,88 @@ struct twillharbor_distance_result {
  * place is 0 for ax, 1 for ay, 2 for bx, 3 for by, and the first of these counts.
  */
 struct twillharbor_distance_result twillharbor_distance(double ax, double ay, double bx, double by);
+
+/*
+ * The calls below take a plate:
+ *
+ * points    each point's horizontal, then its vertical coordinate, each contour's points
+ *           following the last's
+ * lengths   the M contours' numbers of points; zero is allowed and such a contour is
+ *           skipped. A contour number is its place here, skipped ones counted
+ * width, height   twice the centre
+ * inside    the start strategy: Inside where true, Outside where false
+ *
+ * They only read points and lengths. Squared distances are those of the distance call.
+ * Refusals 1 to 4 test points and lengths, before all else. Refusals 1 to 5 and 7 alter
+ * no slice.
+ */
+
+struct twillharbor_start_result {
+    uint32_t number, place, contour, reversed;
+};
+
+/*
+ * Which contour comes first, and its sense: `contour` is its number, `reversed` 1 if it is
+ * reversed, else 0.
+ *
+ * Contours in order, first point before last: Outside takes a strictly larger squared
+ * distance to the centre, Inside a strictly smaller one. A winning last point reverses the
+ * contour.
+ *
+ * Refusals 1 to 4, then 7 where no contour holds a point.
+ */
+struct twillharbor_start_result twillharbor_start(
+    const double *points, size_t points_length,
+    const uint32_t *lengths, size_t lengths_length,
+    uint32_t width, uint32_t height, bool inside);
+
+struct twillharbor_order_result {
+    uint32_t number, place, entries;
+};
+
+/*
+ * The contours that hold a point, in the order in which straight joins them. The first is
+ * the start call's. Then, from the last end, the strictly least squared distance wins;
+ * forward where forward <= reverse; the lower contour on ties.
+ *
+ * order   holds afterwards two numbers an entry: the contour number, then 1 if it is
+ *         reversed, else 0. C is half its length, rounded down
+ * work    at least M numbers
+ *
+ * `entries` is the number of entries; beyond them the order slice is unaltered. Refusals 1
+ * to 5, then 6 where there are more than C entries: the first C of them are then written
+ * and nothing after them is altered. After a result or a 6 the work slice has free content.
+ */
+struct twillharbor_order_result twillharbor_order(
+    const double *points, size_t points_length,
+    const uint32_t *lengths, size_t lengths_length,
+    uint32_t width, uint32_t height, bool inside,
+    uint32_t *order, size_t order_length,
+    uint32_t *work, size_t work_length);
+
+struct twillharbor_straight_result {
+    uint32_t number, place, points;
+};
+
+/*
+ * The ordered contours' points, one contour after the other, each in its sense.
+ *
+ * path    holds afterwards each path point's horizontal, then its vertical coordinate, bit
+ *         for bit those of the point. C is the lesser of half its length, rounded down,
+ *         and 1,048,576
+ * work    at least M numbers
+ *
+ * `points` is the number of path points; beyond them the path slice is unaltered. Refusals
+ * 1 to 5, then 6 where there are more than C path points: the first C of them are then
+ * written and nothing after them is altered. After a result or a 6 the work slice has free
+ * content.
+ */
+struct twillharbor_straight_result twillharbor_straight(
+    const double *points, size_t points_length,
+    const uint32_t *lengths, size_t lengths_length,
+    uint32_t width, uint32_t height, bool inside,
+    double *path, size_t path_length,
+    uint32_t *work, size_t work_length);
 
 #ifdef __cplusplus
 }

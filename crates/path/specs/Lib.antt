@@ -10,6 +10,7 @@ pub mod Nearest
 pub mod Contours
 pub mod Waiting
 pub mod Start
+pub mod Ordering
 pub mod Joining
 pub mod Pairs
 pub mod Runs

@@ -1,15 +1,36 @@
 -- The structs of the C interface, by the answers of the calls. Definitions only.
 use Prim.Native.Nat.{ℕ}
-use mathlib.Core.Bool.{false}
+use mathlib.Core.Bool.{Bool, true, false}
 use lib.IntN.{pos}
 use lib.Ieee.{Float, fin}
+use Rattle.rules.specs.Tools.{pick}
 use Rattle.rules.specs.HandedOver.{Answer, gives, refuses}
 use Rattle.rules.specs.declared.Point.{Point}
+use Rattle.rules.specs.declared.StartPointStrategy.{StartPointStrategy}
+use Rattle.rules.specs.declared.StartPointStrategy.the-variants.{Outside, Inside}
 use Rattle.twillharbor.specs.declared.DistanceResult.{DistanceResult}
+use Rattle.twillharbor.specs.declared.StartResult.{StartResult}
+use Rattle.twillharbor.specs.declared.OrderResult.{OrderResult}
+use Rattle.twillharbor.specs.declared.StraightResult.{StraightResult}
 
 unfoldable pub pointOf : Float → Float → Point
 pointOf x y = record { x = x; y = y }
 
+unfoldable pub strategyOf : Bool → StartPointStrategy
+strategyOf inside = pick inside Inside Outside
+
 unfoldable pub distanceResult : Answer (Float × Float) → DistanceResult
 distanceResult (gives d) = record { number = 0; place = 0; squared = d .0; plain = d .1 }
 distanceResult (refuses n k) = record { number = n; place = k; squared = fin false 0 (pos 0); plain = fin false 0 (pos 0) }
+
+unfoldable pub startResult : Answer (ℕ × Bool) → StartResult
+startResult (gives s) = record { number = 0; place = 0; contour = s .0; reversed = pick (s .1) 1 0 }
+startResult (refuses n k) = record { number = n; place = k; contour = 0; reversed = 0 }
+
+unfoldable pub orderResult : Answer ℕ → OrderResult
+orderResult (gives m) = record { number = 0; place = 0; entries = m }
+orderResult (refuses n k) = record { number = n; place = k; entries = 0 }
+
+unfoldable pub straightResult : Answer ℕ → StraightResult
+straightResult (gives m) = record { number = 0; place = 0; points = m }
+straightResult (refuses n k) = record { number = n; place = k; points = 0 }

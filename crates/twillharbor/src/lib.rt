@@ -1,12 +1,21 @@
 // The C interface. A result's number is 0; a refusal has its number and its place, and 0 in every other field.
 ghost use mathlib.Core.Path.{_≡_};
 ghost use Prim.Native.Nat.{ℕ};
-ghost use Rattle.rules.specs.HandedOver.{refuses, refusal};
-ghost use Rattle.rules.specs.Calls.{distanceCall};
-ghost use Rattle.twillharbor.specs.Results.{distanceResult, pointOf};
+ghost use lib.ListN.{length};
+ghost use Rattle.rules.specs.HandedOver.{plate, refuses, refusal, WorkKept};
+ghost use Rattle.rules.specs.Calls.{distanceCall, startCall, orderCall, straightCall};
+ghost use Rattle.twillharbor.specs.Results.{pointOf, strategyOf, distanceResult, startResult, orderResult, straightResult};
+use order::order_call;
+use point::distance_call;
 use rules::DistanceAnswer;
+use rules::OrderAnswer;
 use rules::Point;
 use rules::Refusal;
+use rules::StartAnswer;
+use rules::StartPointStrategy;
+use rules::StraightAnswer;
+use start::start_call;
+use straight::straight_call;
 
 // The paper's number and place of a refusal.
 struct RefusalNumbers {
@@ -52,7 +61,7 @@ pub struct DistanceResult {
 pub extern "C" fn twillharbor_distance(ax: f64, ay: f64, bx: f64, by: f64) -> DistanceResult
     ensures { λ r. ⌜ r ≡ distanceResult (distanceCall (pointOf ax ay) (pointOf bx by)) ⌝ }
 {
-    let answer = point::distance_call(Point { x: ax, y: ay }, Point { x: bx, y: by });
+    let answer = distance_call(Point { x: ax, y: ay }, Point { x: bx, y: by });
     match answer {
         DistanceAnswer::Distances(squared, plain) => DistanceResult {
             number: 0,
@@ -67,6 +76,134 @@ pub extern "C" fn twillharbor_distance(ax: f64, ay: f64, bx: f64, by: f64) -> Di
                 place: n.place,
                 squared: 0.0,
                 plain: 0.0,
+            }
+        }
+    }
+}
+
+fn strategy_of(inside: bool) -> StartPointStrategy
+    ensures { λ r. ⌜ r ≡ strategyOf inside ⌝ }
+{
+    if inside {
+        return StartPointStrategy::Inside;
+    }
+    StartPointStrategy::Outside
+}
+
+#[repr(C)]
+pub struct StartResult {
+    pub number: u32,
+    pub place: u32,
+    pub contour: u32,
+    pub reversed: u32,
+}
+
+#[no_mangle]
+pub extern "C" fn twillharbor_start(
+    points: &[f64],
+    lengths: &[u32],
+    width: u32,
+    height: u32,
+    inside: bool,
+) -> StartResult
+    ensures { λ r. ⌜ r ≡ startResult (startCall (plate (now (points .entry)) (now (lengths .entry)) width height (strategyOf inside))) ⌝ }
+{
+    let strategy = strategy_of(inside);
+    let answer = start_call(points, lengths, width, height, strategy);
+    match answer {
+        StartAnswer::Start(contour, reversed) => StartResult {
+            number: 0,
+            place: 0,
+            contour,
+            reversed: reversed as u32,
+        },
+        StartAnswer::NoStart(r) => {
+            let n = numbers_of(r);
+            StartResult {
+                number: n.number,
+                place: n.place,
+                contour: 0,
+                reversed: 0,
+            }
+        }
+    }
+}
+
+#[repr(C)]
+pub struct OrderResult {
+    pub number: u32,
+    pub place: u32,
+    pub entries: u32,
+}
+
+#[no_mangle]
+pub extern "C" fn twillharbor_order(
+    points: &[f64],
+    lengths: &[u32],
+    width: u32,
+    height: u32,
+    inside: bool,
+    order: &mut [u32],
+    work: &mut [u32],
+) -> OrderResult
+    ensures { λ r. ⌜
+        (let o = orderCall (plate (now (points .entry)) (now (lengths .entry)) width height (strategyOf inside)) (now (order .entry)) (length (now (work .entry))) in
+        (r ≡ orderResult (o .answer)) × (now (order .exit) ≡ o .order) × WorkKept (o .answer) (now (work .entry)) (now (work .exit))) ⌝ }
+{
+    let strategy = strategy_of(inside);
+    let answer = order_call(points, lengths, width, height, strategy, order, work);
+    match answer {
+        OrderAnswer::Entries(entries) => OrderResult {
+            number: 0,
+            place: 0,
+            entries,
+        },
+        OrderAnswer::NoOrder(r) => {
+            let n = numbers_of(r);
+            OrderResult {
+                number: n.number,
+                place: n.place,
+                entries: 0,
+            }
+        }
+    }
+}
+
+#[repr(C)]
+pub struct StraightResult {
+    pub number: u32,
+    pub place: u32,
+    pub points: u32,
+}
+
+#[no_mangle]
+pub extern "C" fn twillharbor_straight(
+    points: &[f64],
+    lengths: &[u32],
+    width: u32,
+    height: u32,
+    inside: bool,
+    path: &mut [f64],
+    work: &mut [u32],
+) -> StraightResult
+    ensures { λ r. ⌜
+        (let o = straightCall (plate (now (points .entry)) (now (lengths .entry)) width height (strategyOf inside)) (now (path .entry)) (length (now (work .entry))) in
+        (r ≡ straightResult (o .answer)) × (now (path .exit) ≡ o .path) × WorkKept (o .answer) (now (work .entry)) (now (work .exit))) ⌝ }
+{
+    let strategy = strategy_of(inside);
+    let answer = straight_call(points, lengths, width, height, strategy, path, work);
+    match answer {
+        StraightAnswer::Points(count) => StraightResult {
+            number: 0,
+            place: 0,
+            points: count,
+        },
+        StraightAnswer::NoStraight(r) => {
+            let n = numbers_of(r);
+            StraightResult {
+                number: n.number,
+                place: n.place,
+                points: 0,
             }
         }
     }

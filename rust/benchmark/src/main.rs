@@ -1,9 +1,11 @@
-//! Prints nanoseconds a call, and how many times the proved function takes what Rust's does.
+//! Prints the time a call takes, and how many times the proved function takes what Rust's does.
 //!
 //! Both run over the same plate-like numbers, each called through a pointer that the
 //! compiler cannot see through, so that neither is inlined. The least of many rounds counts.
 //! Independent calls overlap in the processor, as in a search over many points; of chained
 //! calls each waits for the answer of the one before.
+
+mod plates;
 
 use std::hint::black_box;
 use std::time::Instant;
@@ -65,6 +67,8 @@ fn main() {
         "distance call against the reference's distance",
         functions.map(|f| times(&pairs, |[ax, ay, bx, by]| f(ax, ay, bx, by))),
     );
+
+    plates::report();
 }
 
 /// Nanoseconds a call.

@@ -5,9 +5,14 @@
 
 mod distances;
 mod floats;
+mod joining;
 mod leaves;
+mod lent;
 mod pairs;
+mod plates;
 mod record;
+mod reference;
+mod rule;
 mod run;
 
 use std::env;
@@ -20,7 +25,10 @@ use run::Plan;
 const USAGE: &str = "\
 usage: differential distances --pairs N --seed S [--threads T]
        differential leaves --pairs N --seed S [--threads T]
-       differential record-distances --out FILE";
+       differential plates --plates N --seed S [--threads T]
+       differential plate --kind K --seed S
+       differential record-distances --out FILE
+       differential record-plates --out FILE";
 
 fn main() -> ExitCode {
     let words: Vec<String> = env::args().skip(1).collect();
@@ -38,30 +46,44 @@ fn main() -> ExitCode {
 fn command(words: &[String]) -> Result<bool, String> {
     let (name, rest) = words.split_first().ok_or("no command")?;
     match name.as_str() {
-        "distances" => Ok(distances::run(plan(rest)?)),
-        "leaves" => Ok(leaves::run(plan(rest)?)),
-        "record-distances" => {
-            let [file] = options(rest, ["--out"])?;
-            let file = file.ok_or("--out is missing")?;
-            fs::write(file, record::distances()).map_err(|e| format!("{file}: {e}"))?;
-            Ok(true)
+        "distances" => Ok(distances::run(plan(rest, "--pairs")?)),
+        "leaves" => Ok(leaves::run(plan(rest, "--pairs")?)),
+        "plates" => Ok(joining::run(plan(rest, "--plates")?)),
+        "plate" => {
+            let [kind, seed] = options(rest, ["--kind", "--seed"])?;
+            joining::run_one(number("--kind", kind)?, number("--seed", seed)?)
         }
+        "record-distances" => record(rest, record::distances),
+        "record-plates" => record(rest, record::plates),
         _ => Err(format!("no command {name}")),
     }
 }
 
-fn plan(words: &[String]) -> Result<Plan, String> {
-    let [pairs, seed, threads] = options(words, ["--pairs", "--seed", "--threads"])?;
-    let number = |word: &str| word.parse::<u64>().map_err(|e| format!("{word}: {e}"));
+/// Writes the rows to the file that is named.
+fn record(words: &[String], rows: impl Fn() -> String) -> Result<bool, String> {
+    let [file] = options(words, ["--out"])?;
+    let file = file.ok_or("--out is missing")?;
+    fs::write(file, rows()).map_err(|e| format!("{file}: {e}"))?;
+    Ok(true)
+}
+
+/// The plan, the number of whose cases follows the option `cases`.
+fn plan(words: &[String], cases: &str) -> Result<Plan, String> {
+    let [pairs, seed, threads] = options(words, [cases, "--seed", "--threads"])?;
     let threads = match threads {
-        Some(word) => number(word)?,
+        Some(_) => number("--threads", threads)?,
         None => thread::available_parallelism().map_or(1, |n| n.get() as u64),
     };
     Ok(Plan {
-        pairs: number(pairs.ok_or("--pairs is missing")?)?,
-        seed: number(seed.ok_or("--seed is missing")?)?,
+        pairs: number(cases, pairs)?,
+        seed: number("--seed", seed)?,
         threads: threads.clamp(1, 256) as usize,
     })
+}
+
+fn number(name: &str, word: Option<&str>) -> Result<u64, String> {
+    let word = word.ok_or_else(|| format!("{name} is missing"))?;
+    word.parse().map_err(|e| format!("{word}: {e}"))
 }
 
 /// The words that follow each of the named options.

@@ -1,4 +1,5 @@
 //! What the differential run and the benchmark share.
 
 pub mod leaves;
+pub mod plates;
 pub mod random;

@@ -1,6 +1,8 @@
-//! The exported functions, each below its C signature in `include/twillharbor.h`.
+//! The exported functions, each below its C signature in `include/twillharbor.h`, and
+//! their results as C has them.
 //!
-//! A function is declared `safe` where its proved contract asks nothing of the caller.
+//! A function is declared `safe` where its proved contract asks nothing of the caller. One
+//! that takes slices as pointers is not; the function below that hands it Rust's slices is.
 
 #![allow(unsafe_code)]
 
@@ -16,17 +18,191 @@ pub struct DistanceResult {
     pub plain: f64,
 }
 
+/// ```c
+/// struct twillharbor_start_result { uint32_t number, place, contour, reversed; };
+/// ```
+#[repr(C)]
+#[derive(Debug, Clone, Copy)]
+pub struct StartResult {
+    pub number: u32,
+    pub place: u32,
+    pub contour: u32,
+    pub reversed: u32,
+}
+
+/// ```c
+/// struct twillharbor_order_result { uint32_t number, place, entries; };
+/// ```
+#[repr(C)]
+#[derive(Debug, Clone, Copy)]
+pub struct OrderResult {
+    pub number: u32,
+    pub place: u32,
+    pub entries: u32,
+}
+
+/// ```c
+/// struct twillharbor_straight_result { uint32_t number, place, points; };
+/// ```
+#[repr(C)]
+#[derive(Debug, Clone, Copy)]
+pub struct StraightResult {
+    pub number: u32,
+    pub place: u32,
+    pub points: u32,
+}
+
 unsafe extern "C" {
     /// ```c
     /// struct twillharbor_distance_result
     /// twillharbor_distance(double ax, double ay, double bx, double by);
     /// ```
     pub safe fn twillharbor_distance(ax: f64, ay: f64, bx: f64, by: f64) -> DistanceResult;
+
+    /// ```c
+    /// struct twillharbor_start_result twillharbor_start(
+    ///     const double *points, size_t points_length,
+    ///     const uint32_t *lengths, size_t lengths_length,
+    ///     uint32_t width, uint32_t height, bool inside);
+    /// ```
+    fn twillharbor_start(
+        points: *const f64,
+        points_length: usize,
+        lengths: *const u32,
+        lengths_length: usize,
+        width: u32,
+        height: u32,
+        inside: bool,
+    ) -> StartResult;
+
+    /// ```c
+    /// struct twillharbor_order_result twillharbor_order(
+    ///     const double *points, size_t points_length,
+    ///     const uint32_t *lengths, size_t lengths_length,
+    ///     uint32_t width, uint32_t height, bool inside,
+    ///     uint32_t *order, size_t order_length,
+    ///     uint32_t *work, size_t work_length);
+    /// ```
+    fn twillharbor_order(
+        points: *const f64,
+        points_length: usize,
+        lengths: *const u32,
+        lengths_length: usize,
+        width: u32,
+        height: u32,
+        inside: bool,
+        order: *mut u32,
+        order_length: usize,
+        work: *mut u32,
+        work_length: usize,
+    ) -> OrderResult;
+
+    /// ```c
+    /// struct twillharbor_straight_result twillharbor_straight(
+    ///     const double *points, size_t points_length,
+    ///     const uint32_t *lengths, size_t lengths_length,
+    ///     uint32_t width, uint32_t height, bool inside,
+    ///     double *path, size_t path_length,
+    ///     uint32_t *work, size_t work_length);
+    /// ```
+    fn twillharbor_straight(
+        points: *const f64,
+        points_length: usize,
+        lengths: *const u32,
+        lengths_length: usize,
+        width: u32,
+        height: u32,
+        inside: bool,
+        path: *mut f64,
+        path_length: usize,
+        work: *mut u32,
+        work_length: usize,
+    ) -> StraightResult;
+}
+
+/// `twillharbor_start` on Rust's slices.
+pub fn start(
+    points: &[f64],
+    lengths: &[u32],
+    width: u32,
+    height: u32,
+    inside: bool,
+) -> StartResult {
+    // SAFETY: each slice goes as its pointer and its length, and the call writes none.
+    unsafe {
+        twillharbor_start(
+            points.as_ptr(),
+            points.len(),
+            lengths.as_ptr(),
+            lengths.len(),
+            width,
+            height,
+            inside,
+        )
+    }
+}
+
+/// `twillharbor_order` on Rust's slices.
+pub fn order(
+    points: &[f64],
+    lengths: &[u32],
+    width: u32,
+    height: u32,
+    inside: bool,
+    order: &mut [u32],
+    work: &mut [u32],
+) -> OrderResult {
+    // SAFETY: each slice goes as its pointer and its length; those that the call writes are
+    // lent to it alone.
+    unsafe {
+        twillharbor_order(
+            points.as_ptr(),
+            points.len(),
+            lengths.as_ptr(),
+            lengths.len(),
+            width,
+            height,
+            inside,
+            order.as_mut_ptr(),
+            order.len(),
+            work.as_mut_ptr(),
+            work.len(),
+        )
+    }
+}
+
+/// `twillharbor_straight` on Rust's slices.
+pub fn straight(
+    points: &[f64],
+    lengths: &[u32],
+    width: u32,
+    height: u32,
+    inside: bool,
+    path: &mut [f64],
+    work: &mut [u32],
+) -> StraightResult {
+    // SAFETY: each slice goes as its pointer and its length; those that the call writes are
+    // lent to it alone.
+    unsafe {
+        twillharbor_straight(
+            points.as_ptr(),
+            points.len(),
+            lengths.as_ptr(),
+            lengths.len(),
+            width,
+            height,
+            inside,
+            path.as_mut_ptr(),
+            path.len(),
+            work.as_mut_ptr(),
+            work.len(),
+        )
+    }
 }
 
 #[cfg(test)]
 mod tests {
-    use super::twillharbor_distance;
+    use super::{order, start, straight, twillharbor_distance};
 
     // The wrapper drops the other fields of a refusal, so that they are 0 is seen here alone.
     #[test]
@@ -38,5 +214,36 @@ mod tests {
             assert_eq!((r.number, r.place as usize), (4, place));
             assert_eq!((r.squared.to_bits(), r.plain.to_bits()), (0, 0));
         }
+    }
+
+    #[test]
+    fn refusals_of_the_plate_calls_leave_the_other_fields_zero() {
+        let many = vec![0; 4097];
+        let plates: [(&[f64], &[u32], u32, u32); 5] = [
+            (&[], &many, 1, 0),
+            (&[], &[u32::MAX, 1], 2, 0),
+            (&[1.0], &[1], 3, 0),
+            (&[0.0, 0.0, 1.0, f64::NAN, 2.0, 2.0], &[1, 2], 4, 3),
+            (&[0.0, 0.0, 1.0, 1.0, 2.0, 2.0], &[1, 2], 5, 0),
+        ];
+        for (points, lengths, number, place) in plates {
+            for inside in [false, true] {
+                if number < 5 {
+                    let r = start(points, lengths, 7, 9, inside);
+                    assert_eq!([r.number, r.place, r.contour, r.reversed], [number, place, 0, 0]);
+                }
+                let r = order(points, lengths, 7, 9, inside, &mut [8; 4], &mut [8]);
+                assert_eq!([r.number, r.place, r.entries], [number, place, 0]);
+                let r = straight(points, lengths, 7, 9, inside, &mut [8.0; 4], &mut [8]);
+                assert_eq!([r.number, r.place, r.points], [number, place, 0]);
+            }
+        }
+        let r = start(&[], &[0], 7, 9, true);
+        assert_eq!([r.number, r.place, r.contour, r.reversed], [7, 0, 0, 0]);
+        let (points, lengths) = ([0.0, 0.0, 1.0, 1.0, 2.0, 2.0], [1, 2]);
+        let r = order(&points, &lengths, 7, 9, false, &mut [8; 3], &mut [8; 2]);
+        assert_eq!([r.number, r.place, r.entries], [6, 1, 0]);
+        let r = straight(&points, &lengths, 7, 9, false, &mut [8.0; 5], &mut [8; 2]);
+        assert_eq!([r.number, r.place, r.points], [6, 2, 0]);
     }
 }

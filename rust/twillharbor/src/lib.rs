@@ -7,9 +7,13 @@
 
 #![deny(unsafe_code)]
 
-mod c;
+pub mod c;
+mod plate;
 mod refusal;
 
+pub use plate::{
+    Entry, Size, Start, StartPointStrategy, order, order_into, start, straight, straight_into,
+};
 pub use refusal::Refusal;
 
 /// A point of the plate.

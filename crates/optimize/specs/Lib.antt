@@ -1,0 +1,5 @@
+pub mod Packed
+pub mod Choice
+pub mod Contours
+pub mod State
+pub mod Unpacked

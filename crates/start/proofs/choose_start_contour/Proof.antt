@@ -1,0 +1,101 @@
+-- `start::choose_start_contour` meets its contract. The loop's invariant: the lead so far, after the contours that are left, is the start's. Assumes nothing.
+use mathlib.Core.Path.{_≡_, refl, sym, ap, _∙_}
+use Prim.Native.Nat.{_+_, _-_, _≤_}
+use native.Mathlib.Omega.{arith}
+use borrow.Author.Needs.{needs}
+use lib.ListN.{length, drop}
+use Rattle.rules.specs.Tools.{sum}
+use Rattle.rules.specs.HandedOver.{plate, contoursFrom}
+use Rattle.rules.specs.Start.{start}
+use Rattle.rules.specs.declared.Point.{Point}
+use mathlib.Core.Option.{none}
+use Rattle.plate.specs.Reading.{sum-step}
+use Rattle.start.specs.Oriented.{leadOf}
+use Rattle.start.proofs.Ends.{led, led-start, led-step, led-end}
+use Rattle.start.proofs.choose_start_contour.Statement.{statement}
+use Rattle.start.proofs.choose_start_contour.Tie as tie
+
+abbrev Inv-loop : tie.InvT-loop
+Inv-loop points lengths width height strategy center lead₀ first₀ i₀ lead first i =
+    (i ≤ length lengths)
+    × (first + sum (drop i lengths) ≡ sum lengths)
+    × (let p = plate points lengths width height strategy in
+    led p center strategy (leadOf lead) (contoursFrom i first (drop i lengths)) ≡ start p)
+
+abbrev μ-loop : tie.MeasureT-loop
+μ-loop points lengths width height strategy center lead₀ first₀ i₀ lead first i = length lengths - i
+
+image-center-requires : tie.Need-image-center-requires Inv-loop μ-loop
+image-center-requires c κs = search needs
+
+loop-holds : tie.Need-loop-holds Inv-loop μ-loop
+unfolding plate leadOf
+loop-holds c =
+    let a = c .before .before .before .args in
+    let p = plate (a .points .now) (a .lengths .now) (a .width) (a .height) (a .strategy) in
+    (omega arith, omega arith, ap (λ (q : Point). led p q (a .strategy) none (contoursFrom 0 0 (a .lengths .now))) (c .image-center .ensures) ∙ sym (led-start p))
+
+mul-size : tie.Need-mul-size Inv-loop μ-loop
+mul-size c = search needs
+
+shared-slice-read-size : tie.Need-shared-slice-read-size Inv-loop μ-loop
+shared-slice-read-size c = search needs
+
+cast-try-contour : tie.Need-cast-try-contour Inv-loop μ-loop
+cast-try-contour c = search needs
+
+try-contour-requires : tie.Need-try-contour-requires Inv-loop μ-loop
+try-contour-requires c κs =
+    let l = c .before .before .loop in
+    let a = c .before .before .before .before .before .before .args in
+    let s = sum-step (a .lengths .now) (l .i) (c .before .loop-test .taken) in
+    let p = c .before .before .before .before .before .before .pre in
+    (omega (arith, l .inv .1, p .points), omega (arith, l .inv .1, p .counted))
+
+add-first : tie.Need-add-first Inv-loop μ-loop
+add-first c =
+    let l = c .before .before .before .loop in
+    let a = c .before .before .before .before .before .before .before .args in
+    omega (arith, l .inv .1, sum-step (a .lengths .now) (l .i) (c .before .before .loop-test .taken), c .before .before .before .before .before .before .before .pre .points)
+
+add-i : tie.Need-add-i Inv-loop μ-loop
+add-i c = search needs
+
+loop-less : tie.Need-loop-less Inv-loop μ-loop
+loop-less c = search needs
+
+loop-again : tie.Need-loop-again Inv-loop μ-loop
+unfolding plate
+loop-again c =
+    let l = c .before .before .before .loop in
+    let a = c .before .before .before .before .before .before .before .args in
+    let p = plate (a .points .now) (a .lengths .now) (a .width) (a .height) (a .strategy) in
+    let h = c .before .before .loop-test .taken in (
+      omega arith,
+      omega (arith, l .inv .1, sum-step (a .lengths .now) (l .i) h),
+      sym (led-step p _ _ _ _ (a .lengths .now) (l .i) (l .first) h (c .try-contour .ensures p refl)) ∙ l .inv .2,
+    )
+
+returns : tie.Need-returns Inv-loop μ-loop
+returns c =
+    let l = c .before .loop in
+    let a = c .before .before .before .before .before .args in
+    sym (led-end (plate (a .points .now) (a .lengths .now) (a .width) (a .height) (a .strategy)) _ _ _ (a .lengths .now) (l .i) (l .first) (c .loop-test .left)) ∙ l .inv .2
+
+pub choose-start-contour-spec : {M : Type 1} → statement M
+choose-start-contour-spec =
+    tie.close
+    (tie.spec
+    Inv-loop
+    μ-loop
+    image-center-requires
+    loop-holds
+    mul-size
+    shared-slice-read-size
+    cast-try-contour
+    try-contour-requires
+    add-first
+    add-i
+    loop-less
+    loop-again
+    returns)

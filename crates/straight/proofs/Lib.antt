@@ -1,0 +1,3 @@
+pub mod Running
+pub mod Drawing
+pub mod Ordered

@@ -1,0 +1,63 @@
+-- `twillharbor::twillharbor_order` meets its contract. Assumes nothing.
+use mathlib.Core.Path.{_≡_, sym, ap, _∙_}
+use Rattle.rules.specs.HandedOver.{orderAnswer}
+use Rattle.plate.specs.Refused.{refused}
+use Rattle.twillharbor.specs.Results.{orderResult}
+use borrow.Author.Needs.{needs}
+use Rattle.twillharbor.proofs.twillharbor_order.Statement.{statement}
+use Rattle.twillharbor.proofs.twillharbor_order.Tie as tie
+
+strategy-of-requires : tie.Need-strategy-of-requires
+strategy-of-requires c κs = search needs
+
+order-call-requires : tie.Need-order-call-requires
+order-call-requires c κs = search needs
+
+enum-known-answer : tie.Need-enum-known-answer
+enum-known-answer c = search needs
+
+enum-known-answer-2 : tie.Need-enum-known-answer-2
+enum-known-answer-2 c = search needs
+
+numbers-of-requires : tie.Need-numbers-of-requires
+numbers-of-requires c κs = search needs
+
+same-length : tie.Need-same-length
+same-length c = search needs
+
+same-length-2 : tie.Need-same-length-2
+same-length-2 c = search needs
+
+returns : tie.Need-returns
+unfolding orderResult orderAnswer
+returns c =
+    let e = rw (c .before .before .before .before .before .before .before .before .before .before .strategy-of .ensures) at (c .before .before .before .before .before .before .before .order-call .ensures) in
+    (ap orderResult (ap orderAnswer (sym (c .before .answer .given .1)) ∙ e .0), e .1, e .2)
+
+same-length-3 : tie.Need-same-length-3
+same-length-3 c = search needs
+
+same-length-4 : tie.Need-same-length-4
+same-length-4 c = search needs
+
+returns-2 : tie.Need-returns-2
+unfolding orderResult orderAnswer
+returns-2 c =
+    let e = rw (c .before .before .before .before .before .before .before .before .before .before .before .strategy-of .ensures) at (c .before .before .before .before .before .before .before .before .order-call .ensures) in
+    (ap orderResult (sym (refused _ _ _ (c .numbers-of .ensures)) ∙ ap orderAnswer (sym (c .before .before .answer2 .given .1)) ∙ e .0), e .1, e .2)
+
+pub twillharbor-order-spec : {M : Type 1} → statement M
+twillharbor-order-spec =
+    tie.close
+    (tie.spec
+    strategy-of-requires
+    order-call-requires
+    enum-known-answer
+    enum-known-answer-2
+    numbers-of-requires
+    same-length
+    same-length-2
+    returns
+    same-length-3
+    same-length-4
+    returns-2)

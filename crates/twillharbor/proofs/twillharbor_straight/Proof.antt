@@ -1,0 +1,63 @@
+-- `twillharbor::twillharbor_straight` meets its contract. Assumes nothing.
+use mathlib.Core.Path.{_≡_, sym, ap, _∙_}
+use Rattle.rules.specs.HandedOver.{straightAnswer}
+use Rattle.plate.specs.Refused.{refused}
+use Rattle.twillharbor.specs.Results.{straightResult}
+use borrow.Author.Needs.{needs}
+use Rattle.twillharbor.proofs.twillharbor_straight.Statement.{statement}
+use Rattle.twillharbor.proofs.twillharbor_straight.Tie as tie
+
+strategy-of-requires : tie.Need-strategy-of-requires
+strategy-of-requires c κs = search needs
+
+straight-call-requires : tie.Need-straight-call-requires
+straight-call-requires c κs = search needs
+
+enum-known-answer : tie.Need-enum-known-answer
+enum-known-answer c = search needs
+
+enum-known-answer-2 : tie.Need-enum-known-answer-2
+enum-known-answer-2 c = search needs
+
+numbers-of-requires : tie.Need-numbers-of-requires
+numbers-of-requires c κs = search needs
+
+same-length : tie.Need-same-length
+same-length c = search needs
+
+same-length-2 : tie.Need-same-length-2
+same-length-2 c = search needs
+
+returns : tie.Need-returns
+unfolding straightResult straightAnswer
+returns c =
+    let e = rw (c .before .before .before .before .before .before .before .before .before .before .strategy-of .ensures) at (c .before .before .before .before .before .before .before .straight-call .ensures) in
+    (ap straightResult (ap straightAnswer (sym (c .before .answer .given .1)) ∙ e .0), e .1, e .2)
+
+same-length-3 : tie.Need-same-length-3
+same-length-3 c = search needs
+
+same-length-4 : tie.Need-same-length-4
+same-length-4 c = search needs
+
+returns-2 : tie.Need-returns-2
+unfolding straightResult straightAnswer
+returns-2 c =
+    let e = rw (c .before .before .before .before .before .before .before .before .before .before .before .strategy-of .ensures) at (c .before .before .before .before .before .before .before .before .straight-call .ensures) in
+    (ap straightResult (sym (refused _ _ _ (c .numbers-of .ensures)) ∙ ap straightAnswer (sym (c .before .before .answer2 .given .1)) ∙ e .0), e .1, e .2)
+
+pub twillharbor-straight-spec : {M : Type 1} → statement M
+twillharbor-straight-spec =
+    tie.close
+    (tie.spec
+    strategy-of-requires
+    straight-call-requires
+    enum-known-answer
+    enum-known-answer-2
+    numbers-of-requires
+    same-length
+    same-length-2
+    returns
+    same-length-3
+    same-length-4
+    returns-2)

@@ -60,7 +60,12 @@ checked-gives xs ns later c e =
       e4 .1,
     )
 
--- ---- distances
+-- ---- points and distances
+
+-- a point of coordinates that are all on the plate
+pub point-on : (xs : List Float) (v : ℕ) → All OnPlate xs → 2 * v + 1 < length xs → OnPlate (at xs v .x) × OnPlate (at xs v .y)
+unfolding at
+point-on xs v a l = (all-at OnPlate nan xs a (2 * v) (omega arith), all-at OnPlate nan xs a (2 * v + 1) l)
 
 -- v is the number of one of the plate's vertices
 abbrev pub OfPlate : Plate → ℕ → Type 0
@@ -71,9 +76,8 @@ abbrev pub Measurable : Plate → Type 0
 Measurable p = (u v : ℕ) → OfPlate p u → OfPlate p v → Plus (distanceSquared (at (p .points) u) (at (p .points) v))
 
 pub accepted-measurable : (p : Plate) → Accepted (p .points) (p .lengths) → Measurable p
-unfolding at
 accepted-measurable p a u v hu hv =
     let e = a .counted in
-    let c = all-at OnPlate nan (p .points) (a .on-plate) in
-    distance-plus (at (p .points) u) (at (p .points) v)
-    (c (2 * u) (omega arith)) (c (2 * u + 1) (omega arith)) (c (2 * v) (omega arith)) (c (2 * v + 1) (omega arith))
+    let c = point-on (p .points) u (a .on-plate) (omega arith) in
+    let d = point-on (p .points) v (a .on-plate) (omega arith) in
+    distance-plus (at (p .points) u) (at (p .points) v) (c .0) (c .1) (d .0) (d .1)

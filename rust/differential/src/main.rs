@@ -5,6 +5,7 @@
 
 mod distances;
 mod floats;
+mod grids;
 mod joining;
 mod leaves;
 mod lent;
@@ -25,6 +26,7 @@ use run::Plan;
 const USAGE: &str = "\
 usage: differential distances --pairs N --seed S [--threads T]
        differential leaves --pairs N --seed S [--threads T]
+       differential grids --plates N --seed S [--threads T]
        differential plates --plates N --seed S [--threads T]
        differential plate --kind K --seed S
        differential record-distances --out FILE
@@ -48,6 +50,7 @@ fn command(words: &[String]) -> Result<bool, String> {
     match name.as_str() {
         "distances" => Ok(distances::run(plan(rest, "--pairs")?)),
         "leaves" => Ok(leaves::run(plan(rest, "--pairs")?)),
+        "grids" => Ok(grids::run(plan(rest, "--plates")?)),
         "plates" => Ok(joining::run(plan(rest, "--plates")?)),
         "plate" => {
             let [kind, seed] = options(rest, ["--kind", "--seed"])?;

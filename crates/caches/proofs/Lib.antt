@@ -1,0 +1,9 @@
+pub mod Replaces
+pub mod Tries
+pub mod Contours
+pub mod Reaches
+pub mod Scans
+pub mod Sweeps
+pub mod Walks
+pub mod Changes
+pub mod Nearby

@@ -1,0 +1,3 @@
+pub mod Sane
+pub mod Numbers
+pub mod PlateGrid

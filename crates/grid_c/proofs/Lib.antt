@@ -1,0 +1,5 @@
+pub mod Passing
+pub mod Writing
+pub mod Inserting
+pub mod Finding
+pub mod Marking

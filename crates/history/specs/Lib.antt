@@ -1,0 +1,4 @@
+pub mod History
+pub mod Squares
+pub mod Points
+pub mod Appending

@@ -1,0 +1,4 @@
+pub mod Counting
+pub mod Entry
+pub mod Folding
+pub mod Around

@@ -1,0 +1,4 @@
+pub mod Resets
+pub mod Parts
+pub mod Marks
+pub mod Begins

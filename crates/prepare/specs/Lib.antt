@@ -1,0 +1,5 @@
+pub mod Holds
+pub mod Prepared
+pub mod Staying
+pub mod Marks
+pub mod Reset

@@ -150,6 +150,63 @@ struct twillharbor_straight_result twillharbor_straight(
     double *path, size_t path_length,
     uint32_t *work, size_t work_length);
 
+/* The kinds of a mark. */
+enum twillharbor_mark {
+    TWILLHARBOR_START = 0,
+    TWILLHARBOR_CUT = 1,
+    TWILLHARBOR_BACK_STEP = 2,
+    TWILLHARBOR_JUMP = 3
+};
+
+struct twillharbor_retrace_result {
+    uint32_t number, place, points, cuts, back_steps, jumps;
+};
+
+/*
+ * The contours that hold a point, joined to one path that goes back over its own grooves to
+ * where the next contour is near. It begins with the start call's contour, in its sense. As
+ * long as contours wait, the one whose cached distance is least comes next, the lowest on
+ * ties: the path walks back to the place that the search of the grid finds for the
+ * contour's cached entry, jumps to that entry and draws the contour from there. From the
+ * first point it goes forward, from the last backward; from another it goes up to the last,
+ * back, and then down to the first. Grid, search, samples and caches are document 01's.
+ *
+ * path    holds afterwards each path point's horizontal, then its vertical coordinate, bit
+ *         for bit those of a point
+ * marks   holds afterwards two numbers a path point, its kind and its reference. A vertex
+ *         number is a point's place among the points, from 0; a path point's place is
+ *         counted from 0 too
+ *           0 start      the first path point, and no other: the vertex number landed on
+ *           1 cut        from the path point before to this one, along a segment of a
+ *                        contour: the lower vertex number of the segment
+ *           2 back-step  k: from path point k + 1's coordinates to path point k's. Both are
+ *                        earlier ones
+ *           3 jump       the vertex number landed on, of a contour not entered before
+ *         C is the least of half the path slice's length, half the marks slice's length,
+ *         both rounded down, and 1,048,576
+ * work    at least C + 4P + 8M + 16,384 numbers
+ * distances   at least M numbers
+ *
+ * `points` is the number of path points; beyond them path and marks slices are unaltered.
+ * `cuts`, `back_steps` and `jumps` are the numbers of marks of these kinds: each segment of
+ * each contour is cut once, and there is one jump less than there are contours that hold a
+ * point, those of length zero counted. Where no contour holds a point all four are 0.
+ *
+ * Refusals 1 to 5, whose place in 5 is 0 where the work slice is short and 1 where the
+ * distances slice alone is. Then 6 where there are more than C path points, and there may be
+ * far more of them than points: the first C are then written with their marks, and nothing
+ * after them is altered. After a result or a 6 the work and distances slices have free
+ * content.
+ */
+struct twillharbor_retrace_result twillharbor_retrace(
+    const double *points, size_t points_length,
+    const uint32_t *lengths, size_t lengths_length,
+    uint32_t width, uint32_t height, bool inside,
+    double *path, size_t path_length,
+    uint32_t *marks, size_t marks_length,
+    uint32_t *work, size_t work_length,
+    double *distances, size_t distances_length);
+
 #ifdef __cplusplus
 }
 #endif

@@ -37,28 +37,28 @@ Enters p P =
 
 -- ---- the contours of those that wait
 
-abbrev contourOf : Waiting → Contour
+abbrev pub contourOf : Waiting → Contour
 contourOf w = w .contour
 
-contours-waiting : (p : Plate) (g : SpatialGrid) (cs : List Contour) → map contourOf (map (waiting p g) cs) ≡ cs
+pub contours-waiting : (p : Plate) (g : SpatialGrid) (cs : List Contour) → map contourOf (map (waiting p g) cs) ≡ cs
 unfolding waiting
 contours-waiting p g [] = refl
 contours-waiting p g (c ∷ cs) = ap (λ (ds : List Contour). c ∷ ds) (contours-waiting p g cs)
 
-contours-without : (n : ℕ) (ws : List Waiting) → map contourOf (without numberOf n ws) ≡ without contourNumber n (map contourOf ws)
+pub contours-without : (n : ℕ) (ws : List Waiting) → map contourOf (without numberOf n ws) ≡ without contourNumber n (map contourOf ws)
 unfolding numberOf contourNumber
 contours-without n ws = map-without contourOf contourNumber n ws
 
 -- a change of the caches leaves the contours
 module _ (f : Waiting → Waiting) (h : Caching f) where
-  contours-cached : (ws : List Waiting) → map contourOf (map f ws) ≡ map contourOf ws
+  pub contours-cached : (ws : List Waiting) → map contourOf (map f ws) ≡ map contourOf ws
   contours-cached [] = refl
   contours-cached (w ∷ ws) = rw (h .contour w, contours-cached ws)
 
-  sane-cached : (ws : List Waiting) → All Sane ws → All Sane (map f ws)
+  pub sane-cached : (ws : List Waiting) → All Sane ws → All Sane (map f ws)
   sane-cached ws a = all-map Sane f ws (all-give Sane (λ w. Sane (f w)) (h .sane) ws a)
 
-coming-without : (p : Plate) (n : ℕ) (cs : List Contour) → Coming p cs → Coming p (without contourNumber n cs)
+pub coming-without : (p : Plate) (n : ℕ) (cs : List Contour) → Coming p cs → Coming p (without contourNumber n cs)
 coming-without p n cs h = record { all = all-without (IsContour p) contourNumber n cs (h .all); rising = rising-without n cs (h .rising) }
 
 -- ---- the joining

@@ -2,65 +2,9 @@
 // the number of rows, then eight words a row (a.x, a.y, b.x, b.y, number, place, squared, plain; floats as bit patterns).
 // Prints how many rows there were and how many differed.
 use twillharbor::twillharbor_distance;
-
-enum Word {
-    Value(u64),
-    End,
-}
-
-// The value of a lowercase hexadecimal digit, or 16.
-fn digit(b: u8) -> u64 {
-    if b'0' <= b && b <= b'9' {
-        return (b - b'0') as u64;
-    }
-    if b'a' <= b && b <= b'f' {
-        return (b - b'a') as u64 + 10;
-    }
-    16
-}
-
-fn parse(text: &[u8; 17]) -> Word {
-    let mut value: u64 = 0;
-    for i in 0..16 {
-        let d = digit(text[i]);
-        if 15 < d {
-            return Word::End;
-        }
-        value = value % 1152921504606846976 * 16 + d % 16;
-    }
-    Word::Value(value)
-}
-
-// The next word, or all ones where the input has ended: no row has such a word.
-fn next() -> u64 {
-    let mut text = [0u8; 17];
-    let n = io::read_full(0, &mut text);
-    if n < 17 {
-        return 18446744073709551615;
-    }
-    let word = parse(&text);
-    let Word::Value(v) = word else {
-        return 18446744073709551615;
-    };
-    v
-}
-
-// The float of a bit pattern; every NaN pattern is one NaN here.
-fn float_of(bits: u64) -> f64 {
-    if 9218868437227405312 < bits % 9223372036854775808 {
-        return 0.0 / 0.0;
-    }
-    f64::from_bits(bits)
-}
-
-// Whether x is a number, or an infinity, with this pattern.
-fn has_bits(x: f64, bits: u64) -> bool {
-    if x == x {
-        f64::to_bits(x) == bits
-    } else {
-        false
-    }
-}
+use words::float_of;
+use words::has_bits;
+use words::next;
 
 // Whether the next row's answer is the one recorded.
 fn row_agrees() -> bool {

@@ -61,7 +61,7 @@ pub fn image_center(width: u32, height: u32) -> Point
 }
 
 // The vertex at which a contour in a sense begins.
-fn first_end(c: Contour, reversed: bool) -> Vertex
+pub fn first_end(c: Contour, reversed: bool) -> Vertex
     requires { ⌜ c .first .0 + c .last < 65536 ⌝ }
     ensures { λ r. ⌜ r .0 ≡ c .first .0 + pick reversed (c .last) 0 ⌝ }
 {

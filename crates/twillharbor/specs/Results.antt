@@ -8,10 +8,12 @@ use Rattle.rules.specs.HandedOver.{Answer, gives, refuses}
 use Rattle.rules.specs.declared.Point.{Point}
 use Rattle.rules.specs.declared.StartPointStrategy.{StartPointStrategy}
 use Rattle.rules.specs.declared.StartPointStrategy.the-variants.{Outside, Inside}
+use Rattle.rules.specs.declared.Counts.{Counts}
 use Rattle.twillharbor.specs.declared.DistanceResult.{DistanceResult}
 use Rattle.twillharbor.specs.declared.StartResult.{StartResult}
 use Rattle.twillharbor.specs.declared.OrderResult.{OrderResult}
 use Rattle.twillharbor.specs.declared.StraightResult.{StraightResult}
+use Rattle.twillharbor.specs.declared.RetraceResult.{RetraceResult}
 
 unfoldable pub pointOf : Float → Float → Point
 pointOf x y = record { x = x; y = y }
@@ -34,3 +36,8 @@ orderResult (refuses n k) = record { number = n; place = k; entries = 0 }
 unfoldable pub straightResult : Answer ℕ → StraightResult
 straightResult (gives m) = record { number = 0; place = 0; points = m }
 straightResult (refuses n k) = record { number = n; place = k; points = 0 }
+
+unfoldable pub retraceResult : Answer Counts → RetraceResult
+retraceResult (gives c) =
+    record { number = 0; place = 0; points = c .points; cuts = c .cuts; «back_steps» = c .«back_steps»; jumps = c .jumps }
+retraceResult (refuses n k) = record { number = n; place = k; points = 0; cuts = 0; «back_steps» = 0; jumps = 0 }

@@ -3,14 +3,16 @@ ghost use mathlib.Core.Path.{_≡_};
 ghost use Prim.Native.Nat.{ℕ};
 ghost use lib.ListN.{length};
 ghost use Rattle.rules.specs.HandedOver.{plate, refuses, refusal, WorkKept};
-ghost use Rattle.rules.specs.Calls.{distanceCall, startCall, orderCall, straightCall};
-ghost use Rattle.twillharbor.specs.Results.{pointOf, strategyOf, distanceResult, startResult, orderResult, straightResult};
+ghost use Rattle.rules.specs.Calls.{distanceCall, startCall, orderCall, straightCall, retraceCall};
+ghost use Rattle.twillharbor.specs.Results.{pointOf, strategyOf, distanceResult, startResult, orderResult, straightResult, retraceResult};
 use order::order_call;
 use point::distance_call;
+use retrace::retrace_call;
 use rules::DistanceAnswer;
 use rules::OrderAnswer;
 use rules::Point;
 use rules::Refusal;
+use rules::RetraceAnswer;
 use rules::StartAnswer;
 use rules::StartPointStrategy;
 use rules::StraightAnswer;
@@ -204,6 +206,68 @@ pub extern "C" fn twillharbor_straight(
                 number: n.number,
                 place: n.place,
                 points: 0,
+            }
+        }
+    }
+}
+
+#[repr(C)]
+pub struct RetraceResult {
+    pub number: u32,
+    pub place: u32,
+    pub points: u32,
+    pub cuts: u32,
+    pub back_steps: u32,
+    pub jumps: u32,
+}
+
+#[no_mangle]
+pub extern "C" fn twillharbor_retrace(
+    points: &[f64],
+    lengths: &[u32],
+    width: u32,
+    height: u32,
+    inside: bool,
+    path: &mut [f64],
+    marks: &mut [u32],
+    work: &mut [u32],
+    distances: &mut [f64],
+) -> RetraceResult
+    ensures { λ r. ⌜
+        (let o = retraceCall (plate (now (points .entry)) (now (lengths .entry)) width height (strategyOf inside)) (now (path .entry)) (now (marks .entry)) (length (now (work .entry))) (length (now (distances .entry))) in
+        (r ≡ retraceResult (o .answer)) × (now (path .exit) ≡ o .path) × (now (marks .exit) ≡ o .marks)
+        × WorkKept (o .answer) (now (work .entry)) (now (work .exit)) × WorkKept (o .answer) (now (distances .entry)) (now (distances .exit))) ⌝ }
+{
+    let strategy = strategy_of(inside);
+    let answer = retrace_call(
+        points,
+        lengths,
+        width,
+        height,
+        strategy,
+        path,
+        marks,
+        work,
+        distances,
+    );
+    match answer {
+        RetraceAnswer::Joined(counts) => RetraceResult {
+            number: 0,
+            place: 0,
+            points: counts.points,
+            cuts: counts.cuts,
+            back_steps: counts.back_steps,
+            jumps: counts.jumps,
+        },
+        RetraceAnswer::NotJoined(r) => {
+            let n = numbers_of(r);
+            RetraceResult {
+                number: n.number,
+                place: n.place,
+                points: 0,
+                cuts: 0,
+                back_steps: 0,
+                jumps: 0,
             }
         }
     }

@@ -6,6 +6,7 @@
 //! calls each waits for the answer of the one before.
 
 mod plates;
+mod retrace;
 
 use std::hint::black_box;
 use std::time::Instant;
@@ -69,6 +70,7 @@ fn main() {
     );
 
     plates::report();
+    retrace::report();
 }
 
 /// Nanoseconds a call.

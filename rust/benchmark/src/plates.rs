@@ -43,6 +43,7 @@ fn compare(points: &[f64], lengths: &[u32]) {
     let mut work = vec![0; lengths.len()];
 
     let times = fastest(
+        ROUNDS,
         || {
             let (points, lengths) = black_box((points, lengths));
             order_into(points, lengths, size, strategy, &mut order, &mut work)
@@ -52,6 +53,7 @@ fn compare(points: &[f64], lengths: &[u32]) {
     print("order", times);
 
     let times = fastest(
+        ROUNDS,
         || {
             let (points, lengths) = black_box((points, lengths));
             straight_into(points, lengths, size, strategy, &mut path, &mut work)
@@ -63,9 +65,13 @@ fn compare(points: &[f64], lengths: &[u32]) {
 }
 
 /// The fastest round of each. They take turns, so that what else the machine does meets both.
-fn fastest<P, R>(mut proved: impl FnMut() -> P, mut rust: impl FnMut() -> R) -> [Duration; 2] {
+pub fn fastest<P, R>(
+    rounds: usize,
+    mut proved: impl FnMut() -> P,
+    mut rust: impl FnMut() -> R,
+) -> [Duration; 2] {
     let mut least = [Duration::MAX; 2];
-    for _ in 0..ROUNDS {
+    for _ in 0..rounds {
         least[0] = least[0].min(time(&mut proved));
         least[1] = least[1].min(time(&mut rust));
     }
@@ -80,11 +86,11 @@ fn time<T>(call: impl FnOnce() -> T) -> Duration {
     took
 }
 
-fn same(path: &[f64], reference: &Polyline) -> bool {
+pub fn same(path: &[f64], reference: &Polyline) -> bool {
     path.iter().copied().eq(reference.points().iter().flat_map(|p| [p.x, p.y]))
 }
 
-fn print(call: &str, times: [Duration; 2]) {
+pub fn print(call: &str, times: [Duration; 2]) {
     let [proved, rust] = times.map(|time| time.as_secs_f64() * 1e3);
     println!("  {call:<18} {proved:>7.2} ms {rust:>7.2} ms {:>6.2} times", proved / rust);
 }

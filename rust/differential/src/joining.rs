@@ -13,7 +13,7 @@ use twillharbor::StartPointStrategy::{self, Inside, Outside};
 use twillharbor::{Refusal, c};
 
 use crate::lent::{Difference, Lent, Number};
-use crate::plates::{DAMAGES, KINDS, Kind, Plate, damaged, plate};
+use crate::plates::{KINDS, Kind, Plate, damaged_somehow, plate};
 use crate::reference::{Results, results};
 use crate::rule::{self, Refused};
 use crate::run::{self, Plan};
@@ -158,15 +158,7 @@ fn work(contours: usize, random: &mut Random) -> usize {
 
 /// A damaged copy, with one damage or several, and any slices.
 fn refused(plate: &Plate, tally: &Tally, random: &mut Random) -> Result<(), String> {
-    let alone = random.one_in(2).then(|| random.pick(&DAMAGES));
-    let mut copy = plate.clone();
-    for damage in DAMAGES {
-        // Among several the lowest numbers, which win, are rarer.
-        let rarity = if damage.number() < 3 { 6 } else { 2 };
-        if alone.map_or(random.one_in(rarity), |alone| alone == damage) {
-            copy = damaged(&copy, damage, random);
-        }
-    }
+    let copy = damaged_somehow(plate, random);
     let case = Case::new(&copy, random.pick(&[Outside, Inside]), tally, random)?;
     case.start()?;
     for _ in 0..2 {
@@ -340,7 +332,7 @@ impl<'a> Case<'a> {
 }
 
 /// The text, with the plate, the whole of it where that is a few lines.
-fn described(plate: &Plate, strategy: StartPointStrategy, text: &str) -> String {
+pub fn described(plate: &Plate, strategy: StartPointStrategy, text: &str) -> String {
     let Plate { points, lengths, size } = plate;
     let mut text = format!("{text}\n  {} by {}, {strategy:?}", size.width, size.height);
     if points.len() <= 256 && lengths.len() <= 64 {

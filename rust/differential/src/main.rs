@@ -3,6 +3,7 @@
 //! Each run is made from a seed alone, whatever the number of threads. It ends with
 //! status 1 where an answer differs, and with 2 where the command is not understood.
 
+mod checker;
 mod distances;
 mod floats;
 mod grids;
@@ -13,6 +14,8 @@ mod pairs;
 mod plates;
 mod record;
 mod reference;
+mod retrace_plates;
+mod retracing;
 mod rule;
 mod run;
 
@@ -29,8 +32,11 @@ usage: differential distances --pairs N --seed S [--threads T]
        differential grids --plates N --seed S [--threads T]
        differential plates --plates N --seed S [--threads T]
        differential plate --kind K --seed S
+       differential retrace --plates N --seed S [--threads T]
+       differential retrace-plate --kind K --seed S
        differential record-distances --out FILE
-       differential record-plates --out FILE";
+       differential record-plates --out FILE
+       differential record-retrace --out FILE";
 
 fn main() -> ExitCode {
     let words: Vec<String> = env::args().skip(1).collect();
@@ -56,8 +62,14 @@ fn command(words: &[String]) -> Result<bool, String> {
             let [kind, seed] = options(rest, ["--kind", "--seed"])?;
             joining::run_one(number("--kind", kind)?, number("--seed", seed)?)
         }
+        "retrace" => Ok(retracing::run(plan(rest, "--plates")?)),
+        "retrace-plate" => {
+            let [kind, seed] = options(rest, ["--kind", "--seed"])?;
+            retracing::run_one(number("--kind", kind)?, number("--seed", seed)?)
+        }
         "record-distances" => record(rest, record::distances),
         "record-plates" => record(rest, record::plates),
+        "record-retrace" => record(rest, record::retrace::retraces),
         _ => Err(format!("no command {name}")),
     }
 }

@@ -145,7 +145,8 @@ const TRIPLES: [[f64; 3]; 5] =
 
 type Contour = Vec<[f64; 2]>;
 
-fn of_lengths(kind: Kind, mut lengths: Vec<u32>, random: &mut Random) -> Plate {
+/// A plate of the kind with contours of these lengths, or shorter ones.
+pub fn of_lengths(kind: Kind, mut lengths: Vec<u32>, random: &mut Random) -> Plate {
     let size = size(kind, random);
     match kind {
         Kind::SinglePoints => lengths.iter_mut().for_each(|n| *n = (*n).min(1)),
@@ -421,6 +422,20 @@ pub fn damaged(plate: &Plate, damage: Damage, random: &mut Random) -> Plate {
         }
     }
     plate
+}
+
+/// A copy with one damage or several, or none where several were tried.
+pub fn damaged_somehow(plate: &Plate, random: &mut Random) -> Plate {
+    let alone = random.one_in(2).then(|| random.pick(&DAMAGES));
+    let mut copy = plate.clone();
+    for damage in DAMAGES {
+        // Among several the lowest numbers, which win, are rarer.
+        let rarity = if damage.number() < 3 { 6 } else { 2 };
+        if alone.map_or(random.one_in(rarity), |alone| alone == damage) {
+            copy = damaged(&copy, damage, random);
+        }
+    }
+    copy
 }
 
 fn off_the_plate(random: &mut Random) -> f64 {

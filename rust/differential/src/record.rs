@@ -21,6 +21,10 @@
 //!   leaves it, where every element was [`PATH_FILL`].
 //!
 //! A plate has at most 40 coordinates and 12 contours, and each slice at most 64 elements.
+//!
+//! The rows of the retrace call are described in `retrace`.
+
+pub mod retrace;
 
 use harness::random::Random;
 use twillharbor::Size;
@@ -214,7 +218,13 @@ fn fixed() -> Vec<Plate> {
         lengths: contours.iter().map(|contour| contour.len() as u32).collect(),
         size: Size { width, height },
     });
-    // More than one refusal's condition holds, but for the first and the last.
+    [&plates[..], &refused_plates()].concat()
+}
+
+/// Plates that are refused. More than one refusal's condition holds, but for the first and the
+/// last.
+fn refused_plates() -> Vec<Plate> {
+    const BEYOND: f64 = plates::LIMIT.next_up();
     let refused: [(&[f64], &[u32]); 8] = [
         (&[], &[65_536, 1]),
         (&[], &[u32::MAX, 1]),
@@ -230,7 +240,7 @@ fn fixed() -> Vec<Plate> {
         lengths: lengths.to_vec(),
         size: Size::default(),
     });
-    [&plates[..], &refused].concat()
+    refused.to_vec()
 }
 
 fn write_row(words: &mut Words, row: &Row) {
@@ -284,7 +294,7 @@ mod tests {
     };
 
     /// The words of a file, each with exactly one separator after it.
-    fn words(text: &str) -> Vec<u64> {
+    pub fn words(text: &str) -> Vec<u64> {
         let (words, rest) = text.as_bytes().as_chunks::<17>();
         assert!(rest.is_empty());
         let word = |word: &[u8; 17]| {

@@ -1,12 +1,12 @@
-//! The reference's answers to the start, order and straight calls.
+//! The reference's answers to the start, order, straight and retrace calls.
 
 use harness::plates::polylines;
-use mujou_reference::join::door;
+use mujou_reference::join::{capped, door};
 use mujou_reference::optimize::optimize_path_order;
 use mujou_reference::types::{self, Dimensions, Point, Polyline};
 use twillharbor::{Size, StartPointStrategy};
 
-use crate::rule::{self, Refused};
+use crate::rule::{self, Refused, Retrace};
 
 /// What becomes of a plate, whatever slices are lent for it.
 #[derive(Debug, Clone)]
@@ -31,11 +31,7 @@ pub fn results(
         return Ok(Err(refused));
     }
     let contours = polylines(points, lengths);
-    let dims = Dimensions { width: size.width, height: size.height };
-    let theirs = match strategy {
-        StartPointStrategy::Outside => types::StartPointStrategy::Outside,
-        StartPointStrategy::Inside => types::StartPointStrategy::Inside,
-    };
+    let (theirs, dims) = (their_strategy(strategy), dimensions(size));
     let results = Results {
         start: start(&contours, theirs, dims),
         order: order(&contours, theirs, dims),
@@ -65,6 +61,68 @@ pub fn results(
         return Err("the reference's straight path is not that of its order".to_string());
     }
     Ok(Ok(results))
+}
+
+/// The reference's path with document 01's marks, or the refusal of a plate that document 01
+/// refuses for its points or lengths. A path that has more points than the cap says can be
+/// exponentially long: then the copy of the reference that stops gives its beginning.
+///
+/// The reference has no marks. They are those of document 01 as transcribed in `rule`, and it
+/// is an error where its path differs from the reference's.
+pub fn retrace(
+    points: &[f64],
+    lengths: &[u32],
+    size: Size,
+    strategy: StartPointStrategy,
+    cap: usize,
+) -> Result<Result<Retrace, Refused>, String> {
+    if let Err(refused) = rule::checked(points, lengths) {
+        return Ok(Err(refused));
+    }
+    let mut steps = rule::retrace::retrace(points, lengths, size, strategy, cap);
+    let whole = steps.len() <= cap;
+    steps.truncate(cap);
+
+    let contours = polylines(points, lengths);
+    let (theirs, dims) = (their_strategy(strategy), dimensions(size));
+    let mut path = coordinates(&if whole {
+        door::join_retrace(&contours, theirs, dims)
+    } else {
+        capped::join_retrace(&contours, theirs, dims, cap)
+    });
+    if !whole && path.len() <= cap {
+        return Err(format!(
+            "document 01 as transcribed has a path of more than {cap} points, the reference one \
+             of {}",
+            path.len()
+        ));
+    }
+    path.truncate(if whole { usize::MAX } else { cap });
+
+    let (vertices, _) = points.as_chunks();
+    let ours: Vec<[f64; 2]> = steps.iter().map(|step| vertices[step.vertex]).collect();
+    if !same_bits(&ours, &path) {
+        let apart = ours.iter().zip(&path).position(|(a, b)| !same_bits(&[*a], &[*b]));
+        return Err(format!(
+            "document 01 as transcribed has another path than the reference: {} and {} points, \
+             different from place {:?} on",
+            ours.len(),
+            path.len(),
+            apart
+        ));
+    }
+    Ok(Ok(Retrace { path, marks: steps.iter().map(|step| step.mark).collect(), whole }))
+}
+
+fn their_strategy(strategy: StartPointStrategy) -> types::StartPointStrategy {
+    match strategy {
+        StartPointStrategy::Outside => types::StartPointStrategy::Outside,
+        StartPointStrategy::Inside => types::StartPointStrategy::Inside,
+    }
+}
+
+fn dimensions(size: Size) -> Dimensions {
+    Dimensions { width: size.width, height: size.height }
 }
 
 fn start(

@@ -1,6 +1,8 @@
 //! Document 01's refusals, start and order once more, written from its text and apart from
 //! the reference. The refusals are not the reference's: it refuses nothing.
 
+pub mod retrace;
+
 use std::cmp::Reverse;
 
 use twillharbor::{Size, StartPointStrategy};
@@ -50,6 +52,58 @@ pub fn outcome<T>(
         Ok(_) if work < contours => ([5, 0, 0], &[]),
         Ok(all) if all.len() > room => ([6, room as u32, 0], &all[..room]),
         Ok(all) => ([0, 0, all.len() as u32], all),
+    }
+}
+
+/// C of the retrace call.
+pub fn retrace_room(path: usize, marks: usize) -> usize {
+    (path / 2).min(marks / 2).min(1_048_576)
+}
+
+/// How many numbers of u32 work are enough for the retrace call.
+pub fn retrace_work(room: usize, points: usize, contours: usize) -> usize {
+    room + 4 * points + 8 * contours + 16_384
+}
+
+/// The path of a plate with its marks, whatever slices are lent for it: the whole of it, or its
+/// beginning.
+#[derive(Debug, Clone)]
+pub struct Retrace {
+    pub path: Vec<[f64; 2]>,
+    pub marks: Vec<[u32; 2]>,
+    /// Otherwise the path has more points than these.
+    pub whole: bool,
+}
+
+/// Refusals 5 and 6 of the retrace call, lent work slices of these lengths: the answer's
+/// number, place, points, cuts, back-steps and jumps, and how many path points it writes. The
+/// room is at most as large as the beginning of a path that is not whole.
+pub fn retrace_outcome(
+    result: Result<&Retrace, Refused>,
+    lengths: &[u32],
+    room: usize,
+    work: usize,
+    distances: usize,
+) -> ([u32; 6], usize) {
+    let refused = |number, place| ([number, place, 0, 0, 0, 0], 0);
+    let Retrace { marks, whole, .. } = match result {
+        Err((number, place)) => return refused(number, place),
+        Ok(retrace) => retrace,
+    };
+    assert!(*whole || room <= marks.len(), "it is not known what fits");
+    let contours = lengths.iter().filter(|&&length| length > 0).count();
+    let points = lengths.iter().sum::<u32>() as usize;
+    if work < retrace_work(room, points, lengths.len()) {
+        refused(5, 0)
+    } else if distances < lengths.len() {
+        refused(5, 1)
+    } else if marks.len() > room || !whole {
+        ([6, room as u32, 0, 0, 0, 0], room)
+    } else {
+        let back_steps = marks.iter().filter(|[kind, _]| *kind == retrace::BACK_STEP).count();
+        let counts = [marks.len(), points - contours, back_steps, contours.saturating_sub(1)];
+        let [points, cuts, back_steps, jumps] = counts.map(|count| count as u32);
+        ([0, 0, points, cuts, back_steps, jumps], marks.len())
     }
 }
 
@@ -151,7 +205,10 @@ pub fn straight(points: &[f64], lengths: &[u32], order: &[[u32; 2]]) -> Vec<[f64
 
 #[cfg(test)]
 mod tests {
-    use super::{Refused, checked, order_room, outcome, straight_room};
+    use super::{
+        Refused, Retrace, checked, order_room, outcome, retrace_outcome, retrace_room,
+        straight_room,
+    };
 
     type Row<'a> = (&'a [f64], &'a [u32], Result<(), Refused>);
 
@@ -199,5 +256,31 @@ mod tests {
             [0, 1, 7, 2_097_153, 9_999_999].map(straight_room),
             [0, 0, 3, 1_048_576, 1_048_576]
         );
+        let slices = [(0, 9), (9, 1), (9, 12), (13, 12), (2_097_153, 8), (9_999_999, 2_097_152)];
+        assert_eq!(
+            slices.map(|(path, marks)| retrace_room(path, marks)),
+            [0, 0, 4, 6, 4, 1_048_576]
+        );
+    }
+
+    #[test]
+    fn both_works_come_before_room() {
+        // Plate E: two cuts, two steps back and a jump.
+        let marks = vec![[0, 0], [1, 0], [1, 1], [2, 1], [2, 0], [3, 3]];
+        let e = Retrace { path: vec![[0.0; 2]; 6], marks, whole: true };
+        let outcome = |e: &Retrace, room, work, distances| {
+            retrace_outcome(Ok(e), &[3, 0, 1], room, work, distances)
+        };
+        let enough = 4 * 4 + 8 * 3 + 16_384;
+        assert_eq!(outcome(&e, 6, enough + 6, 3), ([0, 0, 6, 2, 2, 1], 6));
+        assert_eq!(outcome(&e, 9, enough + 9, 9), ([0, 0, 6, 2, 2, 1], 6));
+        assert_eq!(outcome(&e, 5, enough + 5, 3), ([6, 5, 0, 0, 0, 0], 5));
+        assert_eq!(outcome(&e, 5, enough + 5, 2), ([5, 1, 0, 0, 0, 0], 0));
+        assert_eq!(outcome(&e, 5, enough + 4, 2), ([5, 0, 0, 0, 0, 0], 0));
+        let beginning = Retrace { whole: false, ..e };
+        assert_eq!(outcome(&beginning, 6, enough + 6, 3), ([6, 6, 0, 0, 0, 0], 6));
+        let blank = Retrace { path: vec![], marks: vec![], whole: true };
+        assert_eq!(retrace_outcome(Ok(&blank), &[0], 0, 16_392, 1), ([0; 6], 0));
+        assert_eq!(retrace_outcome(Err((4, 7)), &[1], 0, 0, 0), ([4, 7, 0, 0, 0, 0], 0));
     }
 }

@@ -1,5 +1,6 @@
 //! A run: many cases of several kinds, on several threads, counted by kind.
 
+use std::ops::Range;
 use std::sync::Mutex;
 use std::sync::atomic::{AtomicBool, AtomicU64, Ordering};
 use std::thread;
@@ -34,6 +35,16 @@ pub fn run<K: Copy + Sync>(
     kinds: &[(K, &str)],
     case: impl Fn(K, &mut Random) -> Result<(), String> + Sync,
 ) -> bool {
+    run_in_chunks(plan, CHUNK, kinds, case)
+}
+
+/// The same, with fewer cases to a stream of random numbers: for cases that take long.
+pub fn run_in_chunks<K: Copy + Sync>(
+    plan: Plan,
+    size: u64,
+    kinds: &[(K, &str)],
+    case: impl Fn(K, &mut Random) -> Result<(), String> + Sync,
+) -> bool {
     let next = AtomicU64::new(0);
     let stop = AtomicBool::new(false);
     let whole = Mutex::new(Tally {
@@ -44,11 +55,12 @@ pub fn run<K: Copy + Sync>(
     let work = || {
         while !stop.load(Ordering::Relaxed) {
             let chunk = next.fetch_add(1, Ordering::Relaxed);
-            let first = chunk.saturating_mul(CHUNK);
+            let first = chunk.saturating_mul(size);
             if first >= plan.pairs {
                 break;
             }
-            let tally = chunk_of(plan, kinds, &case, chunk, first);
+            let random = Random::stream(plan.seed, chunk);
+            let tally = chunk_of(first..plan.pairs.min(first + size), kinds, &case, random);
             if !tally.shown.is_empty() {
                 stop.store(true, Ordering::Relaxed);
             }
@@ -77,16 +89,14 @@ pub fn run<K: Copy + Sync>(
 }
 
 fn chunk_of<K: Copy>(
-    plan: Plan,
+    cases: Range<u64>,
     kinds: &[(K, &str)],
     case: &impl Fn(K, &mut Random) -> Result<(), String>,
-    chunk: u64,
-    first: u64,
+    mut random: Random,
 ) -> Tally {
-    let mut random = Random::stream(plan.seed, chunk);
     let mut tally =
         Tally { ran: vec![0; kinds.len()], different: vec![0; kinds.len()], shown: Vec::new() };
-    for number in first..plan.pairs.min(first + CHUNK) {
+    for number in cases {
         let k = (number % kinds.len() as u64) as usize;
         let (kind, name) = kinds[k];
         tally.ran[k] += 1;

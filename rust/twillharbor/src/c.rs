@@ -52,6 +52,22 @@ pub struct StraightResult {
     pub points: u32,
 }
 
+/// ```c
+/// struct twillharbor_retrace_result {
+///     uint32_t number, place, points, cuts, back_steps, jumps;
+/// };
+/// ```
+#[repr(C)]
+#[derive(Debug, Clone, Copy)]
+pub struct RetraceResult {
+    pub number: u32,
+    pub place: u32,
+    pub points: u32,
+    pub cuts: u32,
+    pub back_steps: u32,
+    pub jumps: u32,
+}
+
 unsafe extern "C" {
     /// ```c
     /// struct twillharbor_distance_result
@@ -118,6 +134,34 @@ unsafe extern "C" {
         work: *mut u32,
         work_length: usize,
     ) -> StraightResult;
+
+    /// ```c
+    /// struct twillharbor_retrace_result twillharbor_retrace(
+    ///     const double *points, size_t points_length,
+    ///     const uint32_t *lengths, size_t lengths_length,
+    ///     uint32_t width, uint32_t height, bool inside,
+    ///     double *path, size_t path_length,
+    ///     uint32_t *marks, size_t marks_length,
+    ///     uint32_t *work, size_t work_length,
+    ///     double *distances, size_t distances_length);
+    /// ```
+    fn twillharbor_retrace(
+        points: *const f64,
+        points_length: usize,
+        lengths: *const u32,
+        lengths_length: usize,
+        width: u32,
+        height: u32,
+        inside: bool,
+        path: *mut f64,
+        path_length: usize,
+        marks: *mut u32,
+        marks_length: usize,
+        work: *mut u32,
+        work_length: usize,
+        distances: *mut f64,
+        distances_length: usize,
+    ) -> RetraceResult;
 }
 
 /// `twillharbor_start` on Rust's slices.
@@ -200,9 +244,49 @@ pub fn straight(
     }
 }
 
+/// `twillharbor_retrace` on Rust's slices.
+#[allow(clippy::too_many_arguments)]
+pub fn retrace(
+    points: &[f64],
+    lengths: &[u32],
+    width: u32,
+    height: u32,
+    inside: bool,
+    path: &mut [f64],
+    marks: &mut [u32],
+    work: &mut [u32],
+    distances: &mut [f64],
+) -> RetraceResult {
+    // SAFETY: each slice goes as its pointer and its length; those that the call writes are
+    // lent to it alone.
+    unsafe {
+        twillharbor_retrace(
+            points.as_ptr(),
+            points.len(),
+            lengths.as_ptr(),
+            lengths.len(),
+            width,
+            height,
+            inside,
+            path.as_mut_ptr(),
+            path.len(),
+            marks.as_mut_ptr(),
+            marks.len(),
+            work.as_mut_ptr(),
+            work.len(),
+            distances.as_mut_ptr(),
+            distances.len(),
+        )
+    }
+}
+
 #[cfg(test)]
 mod tests {
-    use super::{order, start, straight, twillharbor_distance};
+    use super::{RetraceResult, order, retrace, start, straight, twillharbor_distance};
+
+    fn numbers(r: RetraceResult) -> [u32; 6] {
+        [r.number, r.place, r.points, r.cuts, r.back_steps, r.jumps]
+    }
 
     // The wrapper drops the other fields of a refusal, so that they are 0 is seen here alone.
     #[test]
@@ -236,6 +320,19 @@ mod tests {
                 assert_eq!([r.number, r.place, r.entries], [number, place, 0]);
                 let r = straight(points, lengths, 7, 9, inside, &mut [8.0; 4], &mut [8]);
                 assert_eq!([r.number, r.place, r.points], [number, place, 0]);
+                let (mut path, mut marks, mut work) = ([8.0; 4], [8; 4], [8]);
+                let r = retrace(
+                    points,
+                    lengths,
+                    7,
+                    9,
+                    inside,
+                    &mut path,
+                    &mut marks,
+                    &mut work,
+                    &mut [],
+                );
+                assert_eq!(numbers(r), [number, place, 0, 0, 0, 0]);
             }
         }
         let r = start(&[], &[0], 7, 9, true);
@@ -245,5 +342,16 @@ mod tests {
         assert_eq!([r.number, r.place, r.entries], [6, 1, 0]);
         let r = straight(&points, &lengths, 7, 9, false, &mut [8.0; 5], &mut [8; 2]);
         assert_eq!([r.number, r.place, r.points], [6, 2, 0]);
+        let (mut path, mut marks, mut work) = ([8.0; 9], [8; 5], vec![8; 2 + 12 + 16 + 16_384]);
+        for (held, distances, number, place) in [
+            (work.len() - 1, 2, 5, 0),
+            (work.len() - 1, 1, 5, 0),
+            (work.len(), 1, 5, 1),
+            (work.len(), 2, 6, 2),
+        ] {
+            let (work, distances) = (&mut work[..held], &mut [8.0; 2][..distances]);
+            let r = retrace(&points, &lengths, 7, 9, false, &mut path, &mut marks, work, distances);
+            assert_eq!(numbers(r), [number, place, 0, 0, 0, 0]);
+        }
     }
 }

@@ -10,11 +10,13 @@
 pub mod c;
 mod plate;
 mod refusal;
+mod retrace;
 
 pub use plate::{
     Entry, Size, Start, StartPointStrategy, order, order_into, start, straight, straight_into,
 };
 pub use refusal::Refusal;
+pub use retrace::{Counts, Mark, MarkedPath, Pair, PairKind, retrace, retrace_into, retrace_work};
 
 /// A point of the plate.
 #[derive(Debug, Clone, Copy, PartialEq)]

@@ -8,9 +8,9 @@
 use crate::{Point, Refusal, c, refusal};
 
 /// More contours are refused before any other slice counts.
-const MOST_CONTOURS: usize = 4_096;
+pub(crate) const MOST_CONTOURS: usize = 4_096;
 /// More points are refused before any other slice counts.
-const MOST_POINTS: usize = 65_536;
+pub(crate) const MOST_POINTS: usize = 65_536;
 
 /// The width and the height of a plate, of which the centre is half.
 #[derive(Debug, Clone, Copy, PartialEq, Eq, Default)]
@@ -32,7 +32,7 @@ pub enum StartPointStrategy {
 }
 
 impl StartPointStrategy {
-    const fn is_inside(self) -> bool {
+    pub(crate) const fn is_inside(self) -> bool {
         matches!(self, Self::Inside)
     }
 }

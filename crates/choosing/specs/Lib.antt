@@ -1,0 +1,4 @@
+pub mod Lined
+pub mod Lining
+pub mod Leader
+pub mod Picks

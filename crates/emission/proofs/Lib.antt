@@ -1,0 +1,4 @@
+pub mod Putting
+pub mod Drawing
+pub mod Walking
+pub mod Emitting

@@ -1,0 +1,3 @@
+pub mod Drawn
+pub mod Wrote
+pub mod Pen

@@ -1,0 +1,10 @@
+pub mod Entering
+pub mod Settling
+pub mod Keeping
+pub mod Extends
+pub mod Candidates
+pub mod Joins
+pub mod Looping
+pub mod Beginning
+pub mod Starting
+pub mod Leading

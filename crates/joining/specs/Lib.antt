@@ -1,0 +1,3 @@
+pub mod Lent
+pub mod Lines
+pub mod Joining

@@ -1,0 +1,426 @@
+//! The retrace call's answers as text: words as in the other files, the number of rows first.
+//!
+//! A row is, in this order:
+//!
+//! - nine words: the number of coordinates, the number of contours, width, height, 1 for Inside
+//!   and 0 for Outside, and the lengths of the path slice, of the marks slice, of the u32 work
+//!   slice and of the f64 work slice;
+//! - the coordinates; the contours' lengths;
+//! - six words: the call's number, place, points, cuts, back-steps and jumps;
+//! - the whole path slice as the call leaves it, where every element was [`PATH_FILL`];
+//! - the whole marks slice as the call leaves it, where every element was [`MARKS_FILL`].
+//!
+//! A plate has at most 40 coordinates and 12 contours. The path slice and the marks slice have
+//! at most 128 elements each, so that C is at most 64, the u32 work slice at most 16,640 and
+//! the f64 work slice at most 16. What work slices hold is not in the rows: they may hold
+//! anything before the call, and hold the same after a refusal but 6.
+//!
+//! The path is the reference's. It has no marks: these are document 01's as transcribed in
+//! `rule`. A refusal and the counts are document 01's rule.
+
+use harness::random::Random;
+use twillharbor::Size;
+use twillharbor::StartPointStrategy::{self, Inside, Outside};
+
+use super::{MOST_COORDINATES, MOST_LENGTHS, PATH_FILL, Words, refused_plates};
+use crate::lent::Number;
+use crate::plates::{DAMAGES, Damage, Plate, damaged, small_plate};
+use crate::reference::retrace;
+use crate::retrace_plates::{KINDS, Kind, plate};
+use crate::rule;
+
+/// How many rows there are of each kind of plate.
+const PLATES: usize = 3;
+/// How many rows there are of each damage.
+const DAMAGED: usize = 3;
+
+/// What a marks slice holds before the call.
+const MARKS_FILL: u32 = 0xa5a5_a5a5;
+
+const MOST_ELEMENTS: usize = 128;
+const MOST_WORK: usize = 16_640;
+const MOST_DISTANCES: usize = 16;
+
+/// A plate and the slices that are lent for it.
+#[derive(Debug, Clone)]
+struct Row {
+    plate: Plate,
+    strategy: StartPointStrategy,
+    path: usize,
+    marks: usize,
+    work: usize,
+    distances: usize,
+}
+
+/// The rows: document 01's plates A and D to G, others that separate one rule from another,
+/// then the same number of each kind of plate and of damage.
+pub fn retraces() -> String {
+    let rows = rows();
+    let mut words = Words::default();
+    words.line([rows.len() as u64]);
+    rows.iter().for_each(|row| write_row(&mut words, row));
+    words.0
+}
+
+fn rows() -> Vec<Row> {
+    let mut random = Random::new(21);
+    let random = &mut random;
+    let mut rows = Vec::new();
+    for (place, (plate, strategy)) in marked().into_iter().enumerate() {
+        // The lettered ones in slices of several lengths, the first of which are just enough.
+        let turns = if place < LETTERED { 0..4 } else { 0..1 };
+        for turn in turns {
+            rows.push(row(plate.clone(), strategy, turn, random));
+        }
+        if place == PLATE_E {
+            // C = 4, by both slices, by either.
+            for (path, marks) in [(8, 8), (13, 9), (9, 24)] {
+                let row = row(plate.clone(), strategy, 0, random);
+                let work = rule::retrace_work(4, 4, 2);
+                rows.push(Row { path, marks, work, ..row });
+            }
+        }
+    }
+    for plate in refused_plates() {
+        rows.push(row(plate, Outside, 0, random));
+    }
+    for (kind, _) in KINDS {
+        for _ in 0..PLATES {
+            let strategy = random.pick(&[Outside, Inside]);
+            let plate = loop {
+                let plate = match kind {
+                    Kind::Of(kind) => small_plate(kind, random),
+                    _ => plate(kind, random),
+                };
+                if fits(&plate) && (4..=MOST_ELEMENTS / 2).contains(&points_of(&plate, strategy)) {
+                    break plate;
+                }
+            };
+            // The slices in turn over all kinds, so that each meets each.
+            rows.push(row(plate, strategy, rows.len(), random));
+        }
+    }
+    // Too many contours do not fit in a row.
+    for damage in DAMAGES.into_iter().filter(|&damage| damage != Damage::ManyContours) {
+        for turn in 0..DAMAGED {
+            let copy = loop {
+                let (kind, _) = random.pick(&crate::plates::KINDS);
+                let copy = damaged(&small_plate(kind, random), damage, random);
+                if fits(&copy) && rule::checked(&copy.points, &copy.lengths).is_err() {
+                    break copy;
+                }
+            };
+            rows.push(row(copy, random.pick(&[Outside, Inside]), turn, random));
+        }
+    }
+    rows
+}
+
+fn fits(plate: &Plate) -> bool {
+    plate.points.len() <= MOST_COORDINATES && plate.lengths.len() <= MOST_LENGTHS
+}
+
+/// How many points the path has: of more than fit in a row, one more than fits.
+fn points_of(plate: &Plate, strategy: StartPointStrategy) -> usize {
+    let cap = MOST_ELEMENTS / 2;
+    match retrace(&plate.points, &plate.lengths, plate.size, strategy, cap) {
+        Ok(Ok(retrace)) if retrace.whole => retrace.marks.len(),
+        Ok(Ok(_)) => cap + 1,
+        Ok(Err(_)) => 0,
+        Err(difference) => panic!("{difference}"),
+    }
+}
+
+fn row(plate: Plate, strategy: StartPointStrategy, turn: usize, random: &mut Random) -> Row {
+    let count = points_of(&plate, strategy);
+    let exact = 2 * count;
+    let short = |by: usize| exact.saturating_sub(by);
+    let more = (exact + 1 + random.below(12) as usize).min(MOST_ELEMENTS);
+    let [path, marks] = match turn % 11 {
+        0 | 4 | 6 => [exact, exact],
+        1 => [short(2), short(2)],
+        2 => [count, count],
+        3 | 5 => [more, more],
+        7 => [exact, short(1)],
+        8 => [more, count],
+        9 => [short(1), more],
+        _ => [random.below(2) as usize, more],
+    };
+    let contours = plate.lengths.len();
+    let room = rule::retrace_room(path, marks);
+    let work = rule::retrace_work(room, plate.points.len() / 2, contours);
+    let (work, distances) = match turn % 13 {
+        6 => (work - 1, contours),
+        7 => (work, contours.saturating_sub(1)),
+        8 => (work - 1, contours.saturating_sub(1)),
+        9 => (work + random.below(8) as usize, contours + random.below(4) as usize),
+        _ => (work, contours),
+    };
+    Row { plate, strategy, path, marks, work, distances }
+}
+
+/// How many of the marked plates have a letter, and which of them is plate E.
+const LETTERED: usize = 7;
+const PLATE_E: usize = 4;
+
+fn marked() -> Vec<(Plate, StartPointStrategy)> {
+    type Contours = &'static [&'static [(f64, f64)]];
+    const TINY: f64 = 1.0 / 64.0;
+    let plates: [(Contours, u32, u32, StartPointStrategy); 42] = [
+        // A, and with contours that are skipped
+        (&[], 0, 0, Outside),
+        (&[&[], &[], &[]], 10, 10, Inside),
+        // B, Inside: a reversed start
+        (&[&[(0.0, 0.0), (4.0, 0.0)]], 10, 10, Inside),
+        // D to G
+        (&[&[(0.0, 0.0), (4.0, 0.0)], &[(4.0, 1.0), (8.0, 1.0)]], 8, 2, Outside),
+        (&[&[(0.0, 0.0), (4.0, 0.0), (8.0, 0.0)], &[(0.0, 1.0)]], 0, 0, Inside),
+        (&[&[(4.0, 0.0)], &[(0.0, 1.0), (4.0, 1.0), (8.0, 1.0)]], 8, 0, Inside),
+        (&[&[(0.0, 0.0)], &[(1.0, 0.0)], &[(0.0, 1.0)]], 0, 0, Inside),
+        // an equal distance wins with the higher path place
+        (&[&[(0.0, 0.0)], &[(1.0, 0.0), (0.0, 1.0)]], 0, 0, Outside),
+        // the search does not stop at ring 1
+        (&[&[(0.0, 2.0), (3.0, 0.0)], &[(1.0, 0.0)]], 4, 0, Inside),
+        // ring 2 is searched: the bound is (r - 1) × s
+        (&[&[(0.0, 2.0), (2.0, 0.0), (1.0, 0.0), (3.0, 1.0)], &[(3.0, 0.0)]], 0, 0, Outside),
+        // a ring whose bound equals the best is still searched
+        (&[&[(0.0, 0.0), (0.24, 0.0)], &[(0.12, 0.0)]], 0, 0, Inside),
+        // a ring is left though by rounded cell edges it holds a point as near and later
+        (&[&[(0.071, 0.002), (0.031, 0.002)], &[(0.051, 0.002)]], 0, 0, Inside),
+        // the column is by (x - origin) × (1 / s), not by (x - origin) / s
+        (&[&[(0.13, 0.0), (0.29, 0.0)], &[(0.21, 0.0)]], 8, 0, Outside),
+        (&[&[(-1.1, -0.0), (-6.1, -0.0), (-1.9, -0.0)], &[(-1.5, -0.0)]], 0, 0, Outside),
+        // dy × dy alone is rounded before the sum
+        (
+            &[
+                &[(6.0, 0.0), (0.1, 0.04)],
+                &[(0.02, 0.0)],
+                &[(0.0, 0.0), (0.06, 0.02), (0.08, 0.1), (0.08, 0.08), (0.12, 0.06), (0.04, 0.06)],
+            ],
+            0,
+            0,
+            Outside,
+        ),
+        // 50 cells, not 40 or 51
+        (&[&[(87.0, 1.0)], &[(3.0, 1.0)], &[(89.0, 0.0)], &[(46.0, 1.0)]], 100, 0, Inside),
+        // the height of the box counts where it is above the width
+        (&[&[(30.0, 10.0)], &[(65.0, 63.0), (65.0, 62.0), (65.0, 62.0)]], 100, 0, Inside),
+        // the last vertex is always a sample
+        (&[&[(57.0, 0.0)], &[(97.0, 2.0), (96.0, 1.0)], &[(11.0, 0.0), (10.0, 0.0)]], 0, 0, Inside),
+        // vertices whose total did not reach s are no samples
+        (
+            &[&[(9.0, 0.0), (74.0, 0.0), (11.0, 32.0)], &[(47.0, 2.0), (47.0, 1.0), (45.0, 2.0)]],
+            0,
+            0,
+            Inside,
+        ),
+        // s is a fiftieth of the box, not a fortieth
+        (
+            &[&[(59.0, 0.0), (60.0, 1.0), (59.0, 1.0)], &[(99.0, 0.0)], &[(34.0, 0.0)]],
+            100,
+            0,
+            Outside,
+        ),
+        // a total equal to s reaches it
+        (
+            &[
+                &[(28.0, 1.0), (28.0, 2.0), (29.0, 1.0), (29.0, 1.0)],
+                &[(1.0, 3.0), (33.0, 50.0)],
+                &[(11.0, 2.0), (12.0, 3.0)],
+                &[(40.0, 0.0)],
+            ],
+            50,
+            0,
+            Outside,
+        ),
+        // the total becomes its remainder by s, not 0
+        (&[&[(4.0, 0.0)], &[(0.0, 1.0), (3.0, 1.0), (4.0, 1.0), (4.0, 100.0)]], 8, 0, Inside),
+        // the remainder is by s, not what is left after taking s once
+        (&[&[(0.0, 0.0), (0.05, 0.0), (0.06, 0.0), (0.01, 0.0)], &[(0.07, 0.0)]], 0, 0, Outside),
+        // a box smaller than 1 counts as 1
+        (
+            &[
+                &[(11.0 * TINY, 3.0 * TINY)],
+                &[(14.0 * TINY, 0.0), (14.0 * TINY, TINY), (15.0 * TINY, 2.0 * TINY)],
+            ],
+            0,
+            0,
+            Inside,
+        ),
+        // an equal distance replaces no cache
+        (&[&[(2.0, 0.0), (2.0, 0.0)], &[(6.0, 1.0)]], 8, 0, Outside),
+        // caches are updated after each later contour
+        (&[&[(0.0, 0.0)], &[(2.0, 0.0), (0.0, 0.0)], &[(1.0, 2.0)]], 0, 0, Outside),
+        // the listed cells are those within 1, in columns and in rows, and not those within 2
+        (&[&[(6.0, 1.0)], &[(44.0, 1.0)], &[(5.0, 1.0)], &[(25.0, 1.0)]], 50, 0, Inside),
+        (&[&[(1.0, 75.0)], &[(1.0, 25.0)], &[(1.0, 77.0)], &[(1.0, 50.0)]], 0, 100, Inside),
+        (&[&[(23.0, 3.0)], &[(22.0, 3.0), (23.0, 5.0)], &[(50.0, 2.0)]], 50, 0, Outside),
+        // samples in other cells are not queried again
+        (&[&[(30.0, 2.0)], &[(50.0, 0.0)], &[(27.0, 0.0), (27.0, 1.0)]], 0, 0, Outside),
+        // cells around each point are listed, not only around the ends
+        (
+            &[&[(4.0, 0.0)], &[(1.0, 0.0)], &[(3.0, 0.0)], &[(2.0, 0.0), (1.0, 0.0), (4.0, 0.0)]],
+            4,
+            0,
+            Outside,
+        ),
+        // samples are queried by cell, not by contour
+        (
+            &[&[(3.0, 0.0), (4.0, 0.0)], &[(4.0, 0.0), (3.0, 0.0)], &[(0.0, 0.0)], &[(4.0, 1.0)]],
+            0,
+            0,
+            Outside,
+        ),
+        // cells are listed in vertex order, by rows, then columns, each from the lowest
+        (&[&[(8.0, 0.0), (4.0, 0.0)], &[(1.0, 0.0)], &[(8.0, 0.0), (4.0, 0.0)]], 0, 0, Inside),
+        (&[&[(27.0, 1.0)], &[(27.0, 2.0), (28.0, 1.0)], &[(0.0, 1.0)]], 0, 0, Inside),
+        (&[&[(8.0, 1.0)], &[(8.0, 2.0), (7.0, 1.0)], &[(50.0, 1.0)]], 8, 0, Outside),
+        (&[&[(50.0, 0.0)], &[(8.0, 0.0), (7.0, 0.0)], &[(7.0, 0.0), (8.0, 0.0)]], 8, 0, Outside),
+        // within a cell from the lowest vertex
+        (&[&[(0.0, 1.0), (0.0, 1.0)], &[(0.0, 2.0)], &[(34.0, 3.0)]], 0, 0, Outside),
+        // the place is the fresh one, not the cached one
+        (&[&[(1.0, 8.0)], &[(7.0, 0.0)], &[(7.0, 2.0)]], 0, 0, Outside),
+        // a return to e of two steps, after a walk-back: its references are places of the path
+        (
+            &[&[(4.0, 0.0), (13.0, 0.0)], &[(0.0, 1.0), (4.0, 1.0), (8.0, 1.0), (12.0, 1.0)]],
+            8,
+            0,
+            Inside,
+        ),
+        // contours that hold no point are skipped, and are no jumps
+        (
+            &[
+                &[],
+                &[(0.0, 0.0), (4.0, 0.0)],
+                &[],
+                &[(9.0, 0.0), (5.0, 0.0)],
+                &[(1.0, 1.0), (1.0, 2.0)],
+                &[(9.0, 1.0)],
+            ],
+            0,
+            0,
+            Inside,
+        ),
+        // a jump of length zero counts as a jump
+        (&[&[(1.0, 1.0)], &[(1.0, 1.0), (1.0, 1.0)], &[(1.0, 1.0)]], 0, 0, Inside),
+        // 0 and -0 are as near, and each keeps its bits
+        (&[&[(0.0, -0.0)], &[(-0.0, 0.0), (-0.0, -0.0)], &[(0.0, 0.0)]], 0, 0, Outside),
+    ];
+    let plates = plates.map(|(contours, width, height, strategy)| {
+        let plate = Plate {
+            points: contours.concat().iter().flat_map(|&(x, y)| [x, y]).collect(),
+            lengths: contours.iter().map(|contour| contour.len() as u32).collect(),
+            size: Size { width, height },
+        };
+        (plate, strategy)
+    });
+    plates.to_vec()
+}
+
+fn write_row(words: &mut Words, row: &Row) {
+    let Row { plate: Plate { points, lengths, size }, strategy, .. } = row;
+    let Row { path, marks, work, distances, .. } = *row;
+    assert!(points.len() <= MOST_COORDINATES && lengths.len() <= MOST_LENGTHS);
+    assert!(path.max(marks) <= MOST_ELEMENTS);
+    assert!(work <= MOST_WORK && distances <= MOST_DISTANCES);
+    let inside = u64::from(*strategy == Inside);
+    let count = |n: usize| n as u64;
+    words.line(
+        [count(points.len()), count(lengths.len()), size.width.into(), size.height.into()]
+            .into_iter()
+            .chain([inside, count(path), count(marks), count(work), count(distances)]),
+    );
+    words.line(points.iter().map(|c| c.bits()));
+    words.line(lengths.iter().map(|n| n.bits()));
+
+    let due = retrace(points, lengths, *size, *strategy, MOST_ELEMENTS / 2);
+    let due = due.expect("the rules agree");
+    let result = due.as_ref().map_err(|&refused| refused);
+    let room = rule::retrace_room(path, marks);
+    let (answer, written) = rule::retrace_outcome(result, lengths, room, work, distances);
+    words.line(answer.map(u64::from));
+    let mut path = vec![PATH_FILL; path];
+    let mut marks = vec![MARKS_FILL; marks];
+    if let Ok(due) = &due {
+        path[..2 * written].copy_from_slice(due.path[..written].as_flattened());
+        marks[..2 * written].copy_from_slice(due.marks[..written].as_flattened());
+    }
+    words.line(path.into_iter().map(Number::bits));
+    words.line(marks.into_iter().map(Number::bits));
+}
+
+#[cfg(test)]
+mod tests {
+    use twillharbor::c;
+
+    use super::super::tests::words;
+    use super::{
+        LETTERED, MARKS_FILL, MOST_COORDINATES, MOST_DISTANCES, MOST_ELEMENTS, MOST_LENGTHS,
+        MOST_WORK, PATH_FILL, PLATE_E, marked, retraces,
+    };
+
+    /// Reads the rows as a program without Rust would, and calls the library.
+    #[test]
+    fn the_library_gives_what_the_rows_record() {
+        let words = words(&retraces());
+        let mut words = words.into_iter();
+        let mut next = || words.next().expect("the row has another word");
+        let rows = next();
+        assert!((130..=170).contains(&rows), "{rows} rows");
+        let (mut numbers, mut places) = ([0; 7], [0; 2]);
+        for _ in 0..rows {
+            let [coordinates, contours] = [next() as usize, next() as usize];
+            let [width, height] = [(); 2].map(|()| u32::try_from(next()).unwrap());
+            let inside = match next() {
+                0 => false,
+                1 => true,
+                other => panic!("strategy {other}"),
+            };
+            let [path, marks, work, distances] = [(); 4].map(|()| next() as usize);
+            assert!(coordinates <= MOST_COORDINATES && contours <= MOST_LENGTHS);
+            assert!(path.max(marks) <= MOST_ELEMENTS);
+            assert!(work <= MOST_WORK && distances <= MOST_DISTANCES);
+            let points: Vec<f64> = (0..coordinates).map(|_| f64::from_bits(next())).collect();
+            let lengths: Vec<u32> = (0..contours).map(|_| u32::try_from(next()).unwrap()).collect();
+
+            let mut path = vec![PATH_FILL; path];
+            let mut marks = vec![MARKS_FILL; marks];
+            let (mut work, mut distances) = (vec![7; work], vec![9.0; distances]);
+            let r = c::retrace(
+                &points,
+                &lengths,
+                width,
+                height,
+                inside,
+                &mut path,
+                &mut marks,
+                &mut work,
+                &mut distances,
+            );
+            let answer = [r.number, r.place, r.points, r.cuts, r.back_steps, r.jumps];
+            assert_eq!(answer.map(u64::from), [(); 6].map(|()| next()));
+            path.iter().for_each(|&x| assert_eq!(x.to_bits(), next()));
+            marks.iter().for_each(|&n| assert_eq!(u64::from(n), next()));
+            if r.number != 0 && r.number != 6 {
+                assert!(work.iter().all(|&n| n == 7) && distances.iter().all(|&x| x == 9.0));
+            }
+            numbers[r.number as usize] += 1;
+            if r.number == 5 {
+                places[r.place as usize] += 1;
+            }
+        }
+        assert_eq!(words.next(), None);
+        // Every number but 1 is there, several times, and both places of 5.
+        assert!([0, 2, 3, 4, 5, 6].iter().all(|&n| numbers[n] >= 4), "{numbers:?}");
+        assert!(places.iter().all(|&rows| rows >= 4), "{places:?}");
+        assert!(numbers[0] >= 60 && numbers[6] >= 25, "{numbers:?}");
+    }
+
+    #[test]
+    fn plate_e_is_where_it_is_said_to_be() {
+        let (e, _) = &marked()[PLATE_E];
+        assert_eq!(e.points, [0.0, 0.0, 4.0, 0.0, 8.0, 0.0, 0.0, 1.0]);
+        let (g, _) = &marked()[LETTERED - 1];
+        assert_eq!(g.points, [0.0, 0.0, 1.0, 0.0, 0.0, 1.0]);
+    }
+}

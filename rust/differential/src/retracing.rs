@@ -1,0 +1,435 @@
+//! The retrace call against the reference's `join_retrace`.
+//!
+//! Every call is lent slices between margins of random bits, and all bits are compared
+//! afterwards: of the answer, of inputs and outputs, and of both work slices after every
+//! refusal but 6. The marks are compared with those of document 01 as transcribed in `rule`,
+//! and the checker looks at every result.
+
+use std::fmt::Debug;
+use std::sync::atomic::{AtomicU64, Ordering};
+
+use harness::random::Random;
+use twillharbor::StartPointStrategy::{self, Inside, Outside};
+use twillharbor::{PairKind, c};
+
+use crate::checker::{self, Claim, Counts};
+use crate::joining::described;
+use crate::lent::{Difference, Lent};
+use crate::plates::{Plate, damaged_somehow};
+use crate::reference::retrace;
+use crate::retrace_plates::{KINDS, Kind, LARGE, large_plate, plate};
+use crate::rule::{self, Refused, Retrace};
+use crate::run::{self, Plan};
+
+/// How many damaged copies of each plate are handed over.
+const COPIES: usize = 4;
+/// Plates to a stream of random numbers.
+const CHUNK: u64 = 256;
+/// C is at most this.
+const MOST: usize = 1_048_576;
+
+/// How many calls were made, by the number that is due, and what their results hold.
+#[derive(Debug, Default)]
+struct Tally {
+    calls: [AtomicU64; 7],
+    /// Path points, cuts, back-steps and jumps.
+    counts: [AtomicU64; 4],
+}
+
+impl Tally {
+    fn count(&self, due: &[u32; 6]) {
+        let [number, _, counts @ ..] = due;
+        self.calls[*number as usize].fetch_add(1, Ordering::Relaxed);
+        for (sum, &count) in self.counts.iter().zip(counts) {
+            sum.fetch_add(count.into(), Ordering::Relaxed);
+        }
+    }
+
+    fn print(&self) {
+        let calls = self.calls.each_ref().map(|n| n.load(Ordering::Relaxed));
+        println!("calls, by the number that is due:");
+        println!("{}", [0, 1, 2, 3, 4, 5, 6].map(|number| format!("{number:>11}")).concat());
+        println!("{}", calls.map(|calls| format!("{calls:>11}")).concat());
+        let counts = self.counts.each_ref().map(|n| n.load(Ordering::Relaxed));
+        let [points, cuts, back_steps, jumps] = counts;
+        println!(
+            "in results: {points} path points, {cuts} cuts, {back_steps} back-steps, {jumps} jumps"
+        );
+    }
+}
+
+/// Compares the plan's plates, and damaged copies of each.
+pub fn run(plan: Plan) -> bool {
+    println!("retrace: {} plates, seed {}", plan.pairs, plan.seed);
+    let tally = Tally::default();
+    let same = run::run_in_chunks(plan, CHUNK, &KINDS, |kind, random| {
+        let seed = random.bits();
+        let number = KINDS.iter().position(|(k, _)| *k == kind).expect("it is one of them");
+        compare(kind, seed, &tally).map_err(|e| {
+            format!("{e}\n  again: differential retrace-plate --kind {number} --seed {seed}")
+        })
+    });
+    if !same {
+        return false;
+    }
+    let plan = Plan { pairs: LARGE.len() as u64, ..plan };
+    println!("large plates: {}, seed {}", plan.pairs, plan.seed);
+    let same = run::run_in_chunks(plan, 1, &LARGE, |large, random| {
+        sound(&large_plate(large, random), Inside, MOST, &tally, 2, random)
+    });
+    tally.print();
+    same
+}
+
+/// Compares one plate of a run: the kind by its number, and the plate's own seed.
+pub fn run_one(kind: u64, seed: u64) -> Result<bool, String> {
+    let (kind, name) = KINDS.get(kind as usize).ok_or_else(|| format!("no kind {kind}"))?;
+    let tally = Tally::default();
+    let outcome = compare(*kind, seed, &tally);
+    tally.print();
+    match &outcome {
+        Ok(()) => println!("no difference, {name}"),
+        Err(difference) => println!("DIFFERENT, {name}: {difference}"),
+    }
+    Ok(outcome.is_ok())
+}
+
+fn compare(kind: Kind, seed: u64, tally: &Tally) -> Result<(), String> {
+    let random = &mut Random::new(seed);
+    let plate = plate(kind, random);
+    let large = plate.points.len() > 1_000 || plate.lengths.len() > 50;
+    let cap = cap(&plate, random);
+    if large {
+        sound(&plate, random.pick(&[Outside, Inside]), cap, tally, 2, random)?;
+    } else {
+        for strategy in [Outside, Inside] {
+            sound(&plate, strategy, cap, tally, 6, random)?;
+        }
+    }
+    for _ in 0..COPIES {
+        let copy = damaged_somehow(&plate, random);
+        if !large || rule::checked(&copy.points, &copy.lengths).is_err() {
+            refused(&copy, tally, random)?;
+        }
+    }
+    Ok(())
+}
+
+/// How many points of a path are compared. A few paths are exponentially long.
+fn cap(plate: &Plate, random: &mut Random) -> usize {
+    match random.below(2_000) {
+        0 => MOST,
+        1..100 => random.below(100) as usize,
+        _ => 10_000 + 4 * plate.points.len(),
+    }
+}
+
+/// The lengths of the slices that a call is lent.
+#[derive(Debug, Clone, Copy)]
+struct Slices {
+    path: usize,
+    marks: usize,
+    work: usize,
+    distances: usize,
+}
+
+impl Slices {
+    fn room(self) -> usize {
+        rule::retrace_room(self.path, self.marks)
+    }
+}
+
+/// A plate as it is: results, and refusals 5 and 6. At most `most` calls are made beside those
+/// with just enough room.
+fn sound(
+    plate: &Plate,
+    strategy: StartPointStrategy,
+    cap: usize,
+    tally: &Tally,
+    most: usize,
+    random: &mut Random,
+) -> Result<(), String> {
+    let case = Case::new(plate, strategy, cap, tally, random)?;
+    let Ok(Retrace { marks, whole, .. }) = &case.due else {
+        return Err(case.described("a sound plate is refused"));
+    };
+    let exact = case.enough(2 * marks.len(), 2 * marks.len());
+    case.retrace(exact, random)?;
+    let short = [
+        Slices { work: exact.work - 1, ..exact },
+        Slices { distances: exact.distances.saturating_sub(1), ..exact },
+        Slices { work: exact.work - 1, distances: exact.distances.saturating_sub(1), ..exact },
+    ];
+    for slices in short.into_iter().take(most) {
+        case.retrace(slices, random)?;
+    }
+    let mut rooms = rooms(marks.len(), random);
+    rooms.retain(|&[path, marks_room]| {
+        *whole || rule::retrace_room(path, marks_room) <= marks.len()
+    });
+    while rooms.len() > most {
+        rooms.swap_remove(random.below(rooms.len() as u64) as usize);
+    }
+    for [path, marks] in rooms {
+        case.retrace(case.around_enough(path, marks, random), random)?;
+    }
+    if !whole && marks.len() == MOST {
+        // Longer slices have no more room.
+        case.retrace(case.enough(2 * MOST + 9, 2 * MOST + 6), random)?;
+    }
+    case.wrapper()
+}
+
+/// Lengths of path and marks slices around those of a result of `count` points.
+fn rooms(count: usize, random: &mut Random) -> Vec<[usize; 2]> {
+    let exact = 2 * count;
+    let [more, other] = [(); 2].map(|()| exact + 2 + random.below(40) as usize);
+    let [some, any] = [(); 2].map(|()| random.below(exact as u64 + 1) as usize);
+    let short = |by: usize| exact.saturating_sub(by);
+    vec![
+        [exact + 1, exact + 1],
+        [exact, more],
+        [more, exact],
+        [more, other],
+        [short(2), short(2)],
+        [short(1), more],
+        [more, short(1)],
+        [short(2), exact],
+        [exact, short(2)],
+        [count, count],
+        [count, more],
+        [exact, count],
+        [0, 0],
+        [0, more],
+        [exact, random.below(2) as usize],
+        [1, 1],
+        [some, any],
+        [some, more],
+    ]
+}
+
+/// A damaged copy, and any slices.
+fn refused(copy: &Plate, tally: &Tally, random: &mut Random) -> Result<(), String> {
+    let case = Case::new(copy, random.pick(&[Outside, Inside]), 1_000, tally, random)?;
+    for _ in 0..2 {
+        let [path, marks] = [(); 2].map(|()| random.below(40) as usize);
+        let slices = if case.due.is_err() && random.one_in(2) {
+            let [work, distances] = [(); 2].map(|()| random.below(40) as usize);
+            Slices { path, marks, work, distances }
+        } else {
+            case.around_enough(path, marks, random)
+        };
+        case.retrace(slices, random)?;
+    }
+    case.wrapper()
+}
+
+/// A plate in slices to lend, and what is due for it.
+struct Case<'a> {
+    plate: &'a Plate,
+    strategy: StartPointStrategy,
+    tally: &'a Tally,
+    points: Lent<f64>,
+    lengths: Lent<u32>,
+    due: Result<Retrace, Refused>,
+}
+
+impl<'a> Case<'a> {
+    fn new(
+        plate: &'a Plate,
+        strategy: StartPointStrategy,
+        cap: usize,
+        tally: &'a Tally,
+        random: &mut Random,
+    ) -> Result<Self, String> {
+        let due = retrace(&plate.points, &plate.lengths, plate.size, strategy, cap)
+            .map_err(|error| described(plate, strategy, &error))?;
+        let points = Lent::holding(&plate.points, random);
+        let lengths = Lent::holding(&plate.lengths, random);
+        Ok(Self { plate, strategy, tally, points, lengths, due })
+    }
+
+    /// Just enough work beside output slices of these lengths.
+    fn enough(&self, path: usize, marks: usize) -> Slices {
+        let contours = self.plate.lengths.len();
+        let room = rule::retrace_room(path, marks);
+        let work = rule::retrace_work(room, self.plate.points.len() / 2, contours);
+        Slices { path, marks, work, distances: contours }
+    }
+
+    /// Work slices that are mostly enough.
+    fn around_enough(&self, path: usize, marks: usize, random: &mut Random) -> Slices {
+        let mut slices = self.enough(path, marks);
+        for length in [&mut slices.work, &mut slices.distances] {
+            match random.below(16) {
+                0 => *length = random.below(*length as u64 + 1) as usize,
+                1 => *length = length.saturating_sub(1),
+                2..5 => *length += 1 + random.below(30) as usize,
+                _ => {}
+            }
+        }
+        slices
+    }
+
+    /// The retrace call, lent slices of these lengths.
+    fn retrace(&self, slices: Slices, random: &mut Random) -> Result<(), String> {
+        let result = self.due.as_ref().map_err(|&refused| refused);
+        let Slices { path, marks, work, distances } = slices;
+        let (due, written) =
+            rule::retrace_outcome(result, &self.plate.lengths, slices.room(), work, distances);
+        self.tally.count(&due);
+        let name =
+            format!("call, lent slices of {path} and {marks}, and work of {work} and {distances}");
+        let mut path = Lent::random(path, random);
+        let mut marks = Lent::random(marks, random);
+        let mut work = Lent::random(work, random);
+        let mut distances = Lent::random(distances, random);
+        let result = c::retrace(
+            self.points.slice(),
+            self.lengths.slice(),
+            self.plate.size.width,
+            self.plate.size.height,
+            self.strategy == Inside,
+            path.slice_mut(),
+            marks.slice_mut(),
+            work.slice_mut(),
+            distances.slice_mut(),
+        );
+        let c::RetraceResult { number, place, points, cuts, back_steps, jumps } = result;
+        let is = [number, place, points, cuts, back_steps, jumps];
+        self.same("number, place and counts", &name, &is, &due)?;
+        let (path_due, marks_due): (&[_], &[_]) = match &self.due {
+            Ok(due) => (&due.path[..written], &due.marks[..written]),
+            Err(_) => (&[], &[]),
+        };
+        self.holds("path slice", &name, path.difference(path_due))?;
+        self.holds("marks slice", &name, marks.difference(marks_due))?;
+        let free = number == 0 || number == 6;
+        let altered = if free { work.margins_altered() } else { work.altered() };
+        self.holds("work", &name, altered)?;
+        let altered = if free { distances.margins_altered() } else { distances.altered() };
+        self.holds("distances", &name, altered)?;
+        self.inputs_kept(&name)?;
+        if number == 0 {
+            let counts = Counts { points, cuts, back_steps, jumps };
+            self.checked(path.slice(), marks.slice(), counts)
+                .map_err(|broken| self.described(&format!("{name}: {broken}")))?;
+        }
+        Ok(())
+    }
+
+    /// What the checker says of a result.
+    fn checked(&self, path: &[f64], marks: &[u32], counts: Counts) -> Result<(), checker::Broken> {
+        let (path, _) = path.as_chunks();
+        let (marks, _) = marks.as_chunks();
+        checker::check(&Claim {
+            points: &self.plate.points,
+            lengths: &self.plate.lengths,
+            path: &path[..counts.points as usize],
+            marks: &marks[..counts.points as usize],
+            counts,
+        })
+    }
+
+    /// The safe interface, where it allocates the slices itself, unless the beginning of a path
+    /// does not tell what it answers. It comes last: there a write beyond a slice would not
+    /// show.
+    fn wrapper(&self) -> Result<(), String> {
+        const NAME: &str = "safe interface";
+        if let Ok(due) = &self.due
+            && !due.whole
+            && due.marks.len() < MOST
+        {
+            return Ok(());
+        }
+        let (points, lengths) = (self.points.slice(), self.lengths.slice());
+        let outcome = twillharbor::retrace(points, lengths, self.plate.size, self.strategy);
+        let refused = outcome.as_ref().err().map(|refusal| (refusal.number(), refusal.place()));
+        let due = match &self.due {
+            Ok(due) if due.whole => None,
+            Ok(due) => Some((6, due.marks.len() as u32)),
+            Err(refused) => Some(*refused),
+        };
+        self.same("refusal", NAME, &refused, &due)?;
+        if let (Ok(is), Ok(due)) = (outcome, &self.due) {
+            let bits = |path: &[[f64; 2]]| -> Vec<[u64; 2]> {
+                path.iter().map(|point| point.map(f64::to_bits)).collect()
+            };
+            let path: Vec<[f64; 2]> = is.points().iter().map(|p| [p.x, p.y]).collect();
+            self.same("path", NAME, &bits(&path), &bits(&due.path))?;
+            let marks: Vec<[u32; 2]> = is.marks().iter().map(|mark| mark.numbers()).collect();
+            self.same("marks", NAME, &marks, &due.marks)?;
+            let pairs = is.pairs().map(|pair| match pair.kind {
+                PairKind::Cut { segment } => [rule::retrace::CUT, segment],
+                PairKind::BackStep { reversed } => [rule::retrace::BACK_STEP, reversed],
+                PairKind::Jump { vertex } => [rule::retrace::JUMP, vertex],
+            });
+            let of_pairs: Vec<[u32; 2]> = pairs.collect();
+            self.same("pairs", NAME, &&of_pairs[..], &due.marks.get(1..).unwrap_or(&[]))?;
+            let ends: Vec<[f64; 2]> = is.pairs().map(|pair| [pair.to.x, pair.to.y]).collect();
+            self.same("pairs", NAME, &bits(&ends), &bits(due.path.get(1..).unwrap_or(&[])))?;
+            let starts: Vec<[f64; 2]> = is.pairs().map(|p| [p.from.x, p.from.y]).collect();
+            let but_last = &due.path[..due.path.len().saturating_sub(1)];
+            self.same("pairs", NAME, &bits(&starts), &bits(but_last))?;
+            let start = is.start().map(|(point, vertex)| ([point.x, point.y], vertex));
+            let first = due.path.first().zip(due.marks.first());
+            self.same("start", NAME, &start, &first.map(|(point, mark)| (*point, mark[1])))?;
+        }
+        self.inputs_kept(NAME)
+    }
+
+    fn inputs_kept(&self, call: &str) -> Result<(), String> {
+        self.holds("points", call, self.points.altered())?;
+        self.holds("lengths", call, self.lengths.altered())
+    }
+
+    fn holds(&self, slice: &str, call: &str, wrong: Option<Difference>) -> Result<(), String> {
+        match wrong {
+            None => Ok(()),
+            Some(wrong) => Err(self.described(&format!("{call}: of the {slice}, {wrong}"))),
+        }
+    }
+
+    fn same<A: PartialEq + Debug>(
+        &self,
+        what: &str,
+        call: &str,
+        is: &A,
+        due: &A,
+    ) -> Result<(), String> {
+        if is == due {
+            return Ok(());
+        }
+        let [is, due] = [is, due].map(|answer| format!("{answer:?}"));
+        Err(self.described(&format!("{call}: {what}: library {is:.400}, due {due:.400}")))
+    }
+
+    fn described(&self, text: &str) -> String {
+        described(self.plate, self.strategy, text)
+    }
+}
+
+#[cfg(test)]
+mod tests {
+    use std::sync::atomic::Ordering;
+
+    use harness::random::Random;
+
+    use super::{Tally, compare};
+    use crate::retrace_plates::KINDS;
+
+    #[test]
+    fn every_kind_agrees_and_every_refusal_is_due() {
+        let mut random = Random::new(1);
+        let tally = Tally::default();
+        for (kind, name) in KINDS {
+            for _ in 0..5 {
+                compare(kind, random.bits(), &tally).unwrap_or_else(|e| panic!("{name}: {e}"));
+            }
+        }
+        for (number, calls) in tally.calls.iter().enumerate() {
+            let calls = calls.load(Ordering::Relaxed);
+            assert!(calls > 50, "{calls} calls, where {number} is due");
+        }
+    }
+}

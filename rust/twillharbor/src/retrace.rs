@@ -1,0 +1,301 @@
+//! The retrace call. It takes a plate as the other calls do, and gives a path with marks.
+
+use crate::plate::{MOST_CONTOURS, MOST_POINTS};
+use crate::{Point, Refusal, Size, StartPointStrategy, c, refusal};
+
+/// C is at most this, however long the slices are.
+const MOST_PATH_POINTS: usize = 1_048_576;
+
+/// How a path comes to one of its points. A vertex is a point's place among the plate's
+/// points, from 0.
+#[derive(Debug, Clone, Copy, PartialEq, Eq, Hash)]
+pub enum Mark {
+    /// The first path point has this mark, and no other.
+    Start {
+        /// The vertex that the path starts on.
+        vertex: u32,
+    },
+    /// Along a segment of a contour. Each segment is cut once.
+    Cut {
+        /// The lower vertex of the segment.
+        segment: u32,
+    },
+    /// Back over an earlier pair of path points.
+    BackStep {
+        /// The place of the pair's first path point, to whose coordinates the step goes; it
+        /// goes from the coordinates of the path point after that.
+        reversed: u32,
+    },
+    /// To a contour that was not entered before.
+    Jump {
+        /// The vertex that is landed on.
+        vertex: u32,
+    },
+}
+
+impl Mark {
+    /// The mark of two numbers of a marks slice, its kind and its reference. There is none
+    /// where the kind is above 3.
+    #[must_use]
+    pub const fn of([kind, reference]: [u32; 2]) -> Option<Self> {
+        match kind {
+            0 => Some(Self::Start { vertex: reference }),
+            1 => Some(Self::Cut { segment: reference }),
+            2 => Some(Self::BackStep { reversed: reference }),
+            3 => Some(Self::Jump { vertex: reference }),
+            _ => None,
+        }
+    }
+
+    /// The kind and the reference, as they stand in a marks slice.
+    #[must_use]
+    pub const fn numbers(self) -> [u32; 2] {
+        match self {
+            Self::Start { vertex } => [0, vertex],
+            Self::Cut { segment } => [1, segment],
+            Self::BackStep { reversed } => [2, reversed],
+            Self::Jump { vertex } => [3, vertex],
+        }
+    }
+}
+
+/// What a pair of neighbouring path points is: a [`Mark`], but for the start's.
+#[derive(Debug, Clone, Copy, PartialEq, Eq, Hash)]
+pub enum PairKind {
+    /// A segment of a contour.
+    Cut {
+        /// The lower vertex of the segment.
+        segment: u32,
+    },
+    /// An earlier pair, reversed.
+    BackStep {
+        /// The place of the earlier pair's first path point.
+        reversed: u32,
+    },
+    /// A jump to a contour that was not entered before.
+    Jump {
+        /// The vertex that is landed on.
+        vertex: u32,
+    },
+}
+
+/// A pair of neighbouring path points: a groove.
+#[derive(Debug, Clone, Copy, PartialEq)]
+pub struct Pair {
+    /// The point that is left.
+    pub from: Point,
+    /// The point that is reached.
+    pub to: Point,
+    /// Which of the three the pair is.
+    pub kind: PairKind,
+}
+
+/// How many points a path has, and how many of its pairs are of each kind.
+#[derive(Debug, Clone, Copy, PartialEq, Eq, Hash, Default)]
+pub struct Counts {
+    /// The path points: the cuts, the back-steps, and the contours that hold a point.
+    pub points: usize,
+    /// The segments of all contours.
+    pub cuts: usize,
+    /// The steps back over earlier pairs.
+    pub back_steps: usize,
+    /// One less than there are contours that hold a point; 0 where none does.
+    pub jumps: usize,
+}
+
+/// What the retrace call gives: the path, and how it comes to each of its points.
+#[derive(Debug, Clone, PartialEq)]
+pub struct MarkedPath {
+    points: Vec<Point>,
+    marks: Vec<Mark>,
+    counts: Counts,
+}
+
+impl MarkedPath {
+    /// # Panics
+    ///
+    /// Where the marks are not a start, if there is a path point, and then marks of the other
+    /// kinds: then the library is not the one that this crate was written for.
+    fn new(path: &[f64], marks: &[u32], counts: Counts) -> Self {
+        let (path, _) = path[..2 * counts.points].as_chunks();
+        let (marks, _) = marks[..2 * counts.points].as_chunks();
+        let marks = marks.iter().enumerate().map(|(place, &numbers)| match Mark::of(numbers) {
+            Some(mark) if matches!(mark, Mark::Start { .. }) == (place == 0) => mark,
+            _ => panic!("libtwillharbor.a marked path point {place} with {numbers:?}"),
+        });
+        Self {
+            marks: marks.collect(),
+            points: path.iter().map(|&[x, y]| Point { x, y }).collect(),
+            counts,
+        }
+    }
+
+    /// The path points.
+    #[must_use]
+    pub fn points(&self) -> &[Point] {
+        &self.points
+    }
+
+    /// The path points' marks, as many.
+    #[must_use]
+    pub fn marks(&self) -> &[Mark] {
+        &self.marks
+    }
+
+    /// How many there are of each.
+    #[must_use]
+    pub const fn counts(&self) -> Counts {
+        self.counts
+    }
+
+    /// The first path point and its vertex; none where no contour holds a point.
+    #[must_use]
+    pub fn start(&self) -> Option<(Point, u32)> {
+        match (self.points.first(), self.marks.first()) {
+            (Some(&point), Some(&Mark::Start { vertex })) => Some((point, vertex)),
+            _ => None,
+        }
+    }
+
+    /// The pairs of neighbouring path points, in order. Before the first stands the
+    /// [`start`](Self::start).
+    pub fn pairs(&self) -> impl ExactSizeIterator<Item = Pair> + DoubleEndedIterator {
+        let ends = self.points.iter().zip(self.points.iter().skip(1));
+        ends.zip(self.marks.iter().skip(1)).map(|((&from, &to), &mark)| {
+            let kind = match mark {
+                Mark::Cut { segment } => PairKind::Cut { segment },
+                Mark::BackStep { reversed } => PairKind::BackStep { reversed },
+                Mark::Jump { vertex } => PairKind::Jump { vertex },
+                Mark::Start { .. } => unreachable!("the first path point alone is a start"),
+            };
+            Pair { from, to, kind }
+        })
+    }
+}
+
+/// How many numbers the work slice of [`retrace_into`] holds at least: C + 4P + 8M + 16,384,
+/// where C is the capacity, P the number of points and M that of contours, skipped ones
+/// counted.
+#[must_use]
+pub const fn retrace_work(capacity: usize, points: usize, contours: usize) -> usize {
+    capacity + 4 * points + 8 * contours + 16_384
+}
+
+/// One path that draws the contours that hold a point and goes back over its own grooves to
+/// where the next contour is near: after the [start](crate::start) call's contour, from the
+/// place that a search in a grid finds for it, the contour whose cached distance is least
+/// comes next, as document 01 has it.
+///
+/// A path can be far longer than all contours together, so the slices are made longer and
+/// the call is made again until the path fits, or 1,048,576 points are not enough.
+///
+/// # Errors
+///
+/// [`TooManyContours`](Refusal::TooManyContours), [`TooManyPoints`](Refusal::TooManyPoints),
+/// [`Miscounted`](Refusal::Miscounted), [`OffThePlate`](Refusal::OffThePlate), and
+/// [`Full`](Refusal::Full) with place 1,048,576 where the path has more points than that.
+pub fn retrace(
+    points: &[f64],
+    lengths: &[u32],
+    size: Size,
+    strategy: StartPointStrategy,
+) -> Result<MarkedPath, Refusal> {
+    // Where these are not the plate's numbers it is refused for them.
+    let held = (points.len() / 2).min(MOST_POINTS);
+    let contours = lengths.len().min(MOST_CONTOURS);
+    let mut distances = vec![0.0; contours];
+    let mut capacity = 2 * held;
+    loop {
+        let mut path = vec![0.0; 2 * capacity];
+        let mut marks = vec![0; 2 * capacity];
+        let mut work = vec![0; retrace_work(capacity, held, contours)];
+        let outcome = retrace_into(
+            points,
+            lengths,
+            size,
+            strategy,
+            &mut path,
+            &mut marks,
+            &mut work,
+            &mut distances,
+        );
+        match outcome {
+            Ok(counts) => return Ok(MarkedPath::new(&path, &marks, counts)),
+            Err(Refusal::Full { .. }) if capacity < MOST_PATH_POINTS => {
+                capacity = (4 * capacity).min(MOST_PATH_POINTS);
+            }
+            Err(refusal) => return Err(refusal),
+        }
+    }
+}
+
+/// [`retrace`] into lent slices: gives the numbers of path points and of each kind of pair.
+///
+/// A path point is two numbers of `path`, horizontal then vertical, and two of `marks`, its
+/// kind and its reference ([`Mark::of`] reads them). C is the least of half the length of
+/// `path`, half the length of `marks`, both rounded down, and 1,048,576. What lies beyond the
+/// path points is unaltered. `work` holds at least [`retrace_work`] numbers for a capacity of
+/// C, and `distances` at least as many as `lengths`; after a result or
+/// [`Full`](Refusal::Full) the content of both is free.
+///
+/// # Errors
+///
+/// Those of [`retrace`] but [`Full`](Refusal::Full), then [`WorkShort`](Refusal::WorkShort)
+/// with place 0 for `work`, or 1 for `distances` where `work` is enough: these alter no slice.
+/// Then [`Full`](Refusal::Full) where there are more than C path points: the first C of them
+/// are written with their marks, and nothing after them is altered.
+#[allow(clippy::too_many_arguments)]
+pub fn retrace_into(
+    points: &[f64],
+    lengths: &[u32],
+    size: Size,
+    strategy: StartPointStrategy,
+    path: &mut [f64],
+    marks: &mut [u32],
+    work: &mut [u32],
+    distances: &mut [f64],
+) -> Result<Counts, Refusal> {
+    let result = c::retrace(
+        points,
+        lengths,
+        size.width,
+        size.height,
+        strategy.is_inside(),
+        path,
+        marks,
+        work,
+        distances,
+    );
+    refusal::accepted(result.number, result.place)?;
+    Ok(Counts {
+        points: result.points as usize,
+        cuts: result.cuts as usize,
+        back_steps: result.back_steps as usize,
+        jumps: result.jumps as usize,
+    })
+}
+
+#[cfg(test)]
+mod tests {
+    use super::{Counts, Mark, MarkedPath};
+
+    #[test]
+    fn a_mark_is_its_two_numbers() {
+        for kind in 0..4 {
+            let numbers = [kind, 7 + kind];
+            assert_eq!(Mark::of(numbers).map(Mark::numbers), Some(numbers));
+        }
+        assert_eq!(Mark::of([4, 0]), None);
+        assert_eq!(Mark::of([u32::MAX, 0]), None);
+    }
+
+    #[test]
+    fn marks_that_no_path_has_do_not_pass() {
+        let counts = Counts { points: 2, ..Counts::default() };
+        assert_eq!(MarkedPath::new(&[0.0; 4], &[0, 0, 3, 1], counts).pairs().len(), 1);
+        for marks in [[0, 0, 0, 1], [1, 0, 1, 0], [0, 0, 4, 1]] {
+            let outcome = std::panic::catch_unwind(|| MarkedPath::new(&[0.0; 4], &marks, counts));
+            assert!(outcome.is_err(), "{marks:?} passed");
+        }
+    }
+}

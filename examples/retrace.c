@@ -41,7 +41,7 @@ int main(void) {
         }
         printf(" %" PRIu32 "\n", marks[2 * i + 1]);
     }
-    printf("%" PRIu32 " cuts, %" PRIu32 " back-steps, %" PRIu32 " jumps\n", joined.cuts,
+    printf("cuts %" PRIu32 ", back-steps %" PRIu32 ", jumps %" PRIu32 "\n", joined.cuts,
            joined.back_steps, joined.jumps);
     return 0;
 }

@@ -179,8 +179,8 @@ struct twillharbor_retrace_result {
  *           0 start      the first path point, and no other: the vertex number landed on
  *           1 cut        from the path point before to this one, along a segment of a
  *                        contour: the lower vertex number of the segment
- *           2 back-step  k: from path point k + 1's coordinates to path point k's. Both are
- *                        earlier ones
+ *           2 back-step  k: from path point k + 1's coordinates to path point k's, both of
+ *                        them earlier path points
  *           3 jump       the vertex number landed on, of a contour not entered before
  *         C is the least of half the path slice's length, half the marks slice's length,
  *         both rounded down, and 1,048,576
@@ -188,15 +188,14 @@ struct twillharbor_retrace_result {
  * distances   at least M numbers
  *
  * `points` is the number of path points; beyond them path and marks slices are unaltered.
- * `cuts`, `back_steps` and `jumps` are the numbers of marks of these kinds: each segment of
- * each contour is cut once, and there is one jump less than there are contours that hold a
- * point, those of length zero counted. Where no contour holds a point all four are 0.
+ * `cuts`, `back_steps` and `jumps` are the numbers of marks of these kinds. Each segment of
+ * each contour is cut once, and each contour that holds a point, but the first, is jumped to
+ * once; a jump of length zero counts as a jump. Where no contour holds a point all four are 0.
  *
- * Refusals 1 to 5, whose place in 5 is 0 where the work slice is short and 1 where the
- * distances slice alone is. Then 6 where there are more than C path points, and there may be
- * far more of them than points: the first C are then written with their marks, and nothing
- * after them is altered. After a result or a 6 the work and distances slices have free
- * content.
+ * Refusals 1 to 5; the place of 5 is 0 where the work slice is short, and 1 where the
+ * distances slice alone is. Then 6 where there are more than C path points, of which there may
+ * be far more than points: the first C are then written with their marks, and nothing after
+ * them is altered. After a result or a 6 the work and distances slices have free content.
  */
 struct twillharbor_retrace_result twillharbor_retrace(
     const double *points, size_t points_length,

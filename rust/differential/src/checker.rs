@@ -501,6 +501,10 @@ mod tests {
             e.counts = counts(5, 2, 2, 0);
         };
         assert_eq!(e().damaged(unentered), (Rule::JumpsAreOneLess, 5));
+    }
+
+    #[test]
+    fn points_are_the_sum() {
         // The path of a plate with points is not empty.
         let empty = |e: &mut Drawn| {
             e.path.clear();

@@ -43,7 +43,7 @@ pub const KINDS: [(Kind, &str); plates::KINDS.len() + MORE.len()] = {
     kinds
 };
 
-/// A plate of the kind, mostly small: up to 12 contours of up to 8 points.
+/// A plate of the kind, mostly small.
 pub fn plate(kind: Kind, random: &mut Random) -> Plate {
     let plate = match kind {
         Kind::Of(kind) => {

@@ -181,10 +181,10 @@ pub const fn retrace_work(capacity: usize, points: usize, contours: usize) -> us
     capacity + 4 * points + 8 * contours + 16_384
 }
 
-/// One path that draws the contours that hold a point and goes back over its own grooves to
-/// where the next contour is near: after the [start](crate::start) call's contour, from the
-/// place that a search in a grid finds for it, the contour whose cached distance is least
-/// comes next, as document 01 has it.
+/// One path that draws the contours that hold a point. It begins with the
+/// [start](crate::start) call's contour. As long as contours wait, the one whose cached distance
+/// is least comes next: the path goes back over its own grooves to the place that a search in a
+/// grid finds for the contour's entry, jumps there and draws it, all as document 01 has it.
 ///
 /// A path can be far longer than all contours together, so the slices are made longer and
 /// the call is made again until the path fits, or 1,048,576 points are not enough.

@@ -82,7 +82,7 @@ fn rows() -> Vec<Row> {
         }
     }
     for plate in refused_plates() {
-        rows.push(row(plate, Outside, 0, random));
+        rows.push(row(plate, Outside, ROOMY, random));
     }
     for (kind, _) in KINDS {
         for _ in 0..PLATES {
@@ -110,7 +110,7 @@ fn rows() -> Vec<Row> {
                     break copy;
                 }
             };
-            rows.push(row(copy, random.pick(&[Outside, Inside]), turn, random));
+            rows.push(row(copy, random.pick(&[Outside, Inside]), ROOMY + turn, random));
         }
     }
     rows
@@ -131,6 +131,9 @@ fn points_of(plate: &Plate, strategy: StartPointStrategy) -> usize {
     }
 }
 
+/// The turn whose slices are longer than they need be.
+const ROOMY: usize = 3;
+
 fn row(plate: Plate, strategy: StartPointStrategy, turn: usize, random: &mut Random) -> Row {
     let count = points_of(&plate, strategy);
     let exact = 2 * count;
@@ -140,7 +143,7 @@ fn row(plate: Plate, strategy: StartPointStrategy, turn: usize, random: &mut Ran
         0 | 4 | 6 => [exact, exact],
         1 => [short(2), short(2)],
         2 => [count, count],
-        3 | 5 => [more, more],
+        ROOMY | 5 => [more, more],
         7 => [exact, short(1)],
         8 => [more, count],
         9 => [short(1), more],

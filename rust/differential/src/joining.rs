@@ -5,14 +5,14 @@
 //! afterwards: of the answer, of inputs and outputs, and of the work slice after every
 //! refusal but 6.
 
-use std::fmt::Debug;
 use std::sync::atomic::{AtomicU64, Ordering};
 
 use harness::random::Random;
 use twillharbor::StartPointStrategy::{self, Inside, Outside};
 use twillharbor::{Refusal, c};
 
-use crate::lent::{Difference, Lent, Number};
+use crate::handed::Handed;
+use crate::lent::{Lent, Number};
 use crate::plates::{KINDS, Kind, Plate, damaged_somehow, plate};
 use crate::reference::{Results, results};
 use crate::rule::{self, Refused};
@@ -109,7 +109,7 @@ fn sound(
     most: usize,
     random: &mut Random,
 ) -> Result<(), String> {
-    let case = Case::new(plate, strategy, tally, random)?;
+    let case = handed(plate, strategy, tally, random)?;
     let contours = plate.lengths.len();
     let entries = plate.lengths.iter().filter(|&&length| length > 0).count();
     let points = plate.points.len() / 2;
@@ -159,7 +159,7 @@ fn work(contours: usize, random: &mut Random) -> usize {
 /// A damaged copy, with one damage or several, and any slices.
 fn refused(plate: &Plate, tally: &Tally, random: &mut Random) -> Result<(), String> {
     let copy = damaged_somehow(plate, random);
-    let case = Case::new(&copy, random.pick(&[Outside, Inside]), tally, random)?;
+    let case = handed(&copy, random.pick(&[Outside, Inside]), tally, random)?;
     case.start()?;
     for _ in 0..2 {
         let (room, work) = (random.below(40) as usize, work(copy.lengths.len(), random));
@@ -169,30 +169,20 @@ fn refused(plate: &Plate, tally: &Tally, random: &mut Random) -> Result<(), Stri
     case.wrapper()
 }
 
-/// A plate in slices to lend, and what is due for it.
-struct Case<'a> {
+type Case<'a> = Handed<'a, Results, Tally>;
+
+/// The plate with what is due of it.
+fn handed<'a>(
     plate: &'a Plate,
     strategy: StartPointStrategy,
     tally: &'a Tally,
-    points: Lent<f64>,
-    lengths: Lent<u32>,
-    due: Result<Results, Refused>,
+    random: &mut Random,
+) -> Result<Case<'a>, String> {
+    let due = results(&plate.points, &plate.lengths, plate.size, strategy);
+    Case::new(plate, strategy, tally, due, random)
 }
 
-impl<'a> Case<'a> {
-    fn new(
-        plate: &'a Plate,
-        strategy: StartPointStrategy,
-        tally: &'a Tally,
-        random: &mut Random,
-    ) -> Result<Self, String> {
-        let due = results(&plate.points, &plate.lengths, plate.size, strategy)
-            .map_err(|error| described(plate, strategy, &error))?;
-        let points = Lent::holding(&plate.points, random);
-        let lengths = Lent::holding(&plate.lengths, random);
-        Ok(Self { plate, strategy, tally, points, lengths, due })
-    }
-
+impl Case<'_> {
     fn start(&self) -> Result<(), String> {
         let due = match self.start_due() {
             Ok([contour, reversed]) => [0, 0, contour, reversed],
@@ -299,49 +289,6 @@ impl<'a> Case<'a> {
         self.same("straight", "safe interface", &straight.map_err(refused), &straight_due)?;
         self.inputs_kept("safe interface")
     }
-
-    fn inputs_kept(&self, call: &str) -> Result<(), String> {
-        self.holds("points", call, self.points.altered())?;
-        self.holds("lengths", call, self.lengths.altered())
-    }
-
-    fn holds(&self, slice: &str, call: &str, wrong: Option<Difference>) -> Result<(), String> {
-        match wrong {
-            None => Ok(()),
-            Some(wrong) => Err(self.described(&format!("{call}: of the {slice}, {wrong}"))),
-        }
-    }
-
-    fn same<A: PartialEq + Debug>(
-        &self,
-        what: &str,
-        call: &str,
-        is: &A,
-        due: &A,
-    ) -> Result<(), String> {
-        if is == due {
-            return Ok(());
-        }
-        let [is, due] = [is, due].map(|answer| format!("{answer:?}"));
-        Err(self.described(&format!("{call}: {what}: library {is:.400}, due {due:.400}")))
-    }
-
-    fn described(&self, text: &str) -> String {
-        described(self.plate, self.strategy, text)
-    }
-}
-
-/// The text, with the plate, the whole of it where that is a few lines.
-pub fn described(plate: &Plate, strategy: StartPointStrategy, text: &str) -> String {
-    let Plate { points, lengths, size } = plate;
-    let mut text = format!("{text}\n  {} by {}, {strategy:?}", size.width, size.height);
-    if points.len() <= 256 && lengths.len() <= 64 {
-        let bits: Vec<String> = points.iter().map(|c| format!("{:016x}", c.to_bits())).collect();
-        text += &format!("\n  lengths {lengths:?}\n  points {}", bits.join(" "));
-    } else {
-        text += &format!("\n  {} lengths, {} coordinates", lengths.len(), points.len());
-    }
-    text
 }
 
 #[cfg(test)]

@@ -7,6 +7,7 @@ mod checker;
 mod distances;
 mod floats;
 mod grids;
+mod handed;
 mod joining;
 mod leaves;
 mod lent;

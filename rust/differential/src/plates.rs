@@ -88,31 +88,39 @@ pub fn small_plate(kind: Kind, random: &mut Random) -> Plate {
     of_lengths(kind, lengths, random)
 }
 
+/// A length of at most `most`.
+pub fn up_to(random: &mut Random, most: u64) -> u32 {
+    random.below(most + 1) as u32
+}
+
+/// As many points as there may be, in fewer than `cuts` + 1 contours.
+pub fn all_points(random: &mut Random, cuts: u64) -> Vec<u32> {
+    let mut left = MOST_POINTS;
+    let mut lengths: Vec<u32> = (0..random.below(cuts))
+        .map(|_| {
+            let length = up_to(random, left.into());
+            left -= length;
+            length
+        })
+        .collect();
+    lengths.push(left);
+    lengths
+}
+
+/// As many contours as there may be, nearly all of them skipped.
+pub fn all_contours(random: &mut Random) -> Vec<u32> {
+    (0..MOST_CONTOURS).map(|_| if random.one_in(400) { up_to(random, 8) } else { 0 }).collect()
+}
+
 fn lengths(random: &mut Random) -> Vec<u32> {
-    let up_to = |random: &mut Random, most: u64| random.below(most + 1) as u32;
     match random.below(16_000) {
         0 => {
             let full = random.one_in(3);
             let contours = if full { MOST_CONTOURS as i64 } else { random.between(1_000, 4_000) };
             (0..contours).map(|_| up_to(random, 15)).collect()
         }
-        // As many points as there may be.
-        1..9 => {
-            let mut left = MOST_POINTS;
-            let mut lengths: Vec<u32> = (0..random.below(40))
-                .map(|_| {
-                    let length = up_to(random, left.into());
-                    left -= length;
-                    length
-                })
-                .collect();
-            lengths.push(left);
-            lengths
-        }
-        // As many contours as there may be, nearly all of them skipped.
-        9..33 => (0..MOST_CONTOURS)
-            .map(|_| if random.one_in(400) { up_to(random, 8) } else { 0 })
-            .collect(),
+        1..9 => all_points(random, 40),
+        9..33 => all_contours(random),
         33..133 => (0..random.between(100, 600)).map(|_| up_to(random, 8)).collect(),
         _ => (0..random.below(13)).map(|_| up_to(random, 8)).collect(),
     }

@@ -6,7 +6,9 @@ use harness::random::Random;
 use twillharbor::Size;
 
 use crate::floats::nudged;
-use crate::plates::{self, LIMIT, MOST_CONTOURS, MOST_POINTS, Plate, of_lengths};
+use crate::plates::{
+    self, LIMIT, MOST_CONTOURS, MOST_POINTS, Plate, all_contours, all_points, of_lengths, up_to,
+};
 use crate::rule::retrace::Grid;
 
 /// How the points of a plate lie.
@@ -70,25 +72,9 @@ pub fn plate(kind: Kind, random: &mut Random) -> Plate {
 /// Large plates are rarer here than among `plates`, and not so large: their paths are long, or
 /// take long where many points lie in one cell.
 fn lengths(random: &mut Random) -> Vec<u32> {
-    let up_to = |random: &mut Random, most: u64| random.below(most + 1) as u32;
     match random.below(16_000) {
-        // As many points as there may be.
-        0 => {
-            let mut left = MOST_POINTS;
-            let mut lengths: Vec<u32> = (0..random.below(4))
-                .map(|_| {
-                    let length = up_to(random, left.into());
-                    left -= length;
-                    length
-                })
-                .collect();
-            lengths.push(left);
-            lengths
-        }
-        // As many contours as there may be, nearly all of them skipped.
-        1..33 => (0..MOST_CONTOURS)
-            .map(|_| if random.one_in(400) { up_to(random, 8) } else { 0 })
-            .collect(),
+        0 => all_points(random, 4),
+        1..33 => all_contours(random),
         33..43 => (0..random.between(61, 200)).map(|_| up_to(random, 8)).collect(),
         43..243 => (0..random.between(13, 60)).map(|_| up_to(random, 8)).collect(),
         _ => (0..random.below(13)).map(|_| up_to(random, 8)).collect(),

@@ -5,7 +5,6 @@
 //! refusal but 6. The marks are compared with those of document 01 as transcribed in `rule`,
 //! and the checker looks at every result.
 
-use std::fmt::Debug;
 use std::sync::atomic::{AtomicU64, Ordering};
 
 use harness::random::Random;
@@ -13,12 +12,12 @@ use twillharbor::StartPointStrategy::{self, Inside, Outside};
 use twillharbor::{PairKind, c};
 
 use crate::checker::{self, Claim, Counts};
-use crate::joining::described;
-use crate::lent::{Difference, Lent};
+use crate::handed::Handed;
+use crate::lent::Lent;
 use crate::plates::{Plate, damaged_somehow};
 use crate::reference::retrace;
 use crate::retrace_plates::{KINDS, Kind, LARGE, large_plate, plate};
-use crate::rule::{self, Refused, Retrace};
+use crate::rule::{self, Retrace};
 use crate::run::{self, Plan};
 
 /// How many damaged copies of each plate are handed over.
@@ -149,7 +148,7 @@ fn sound(
     most: usize,
     random: &mut Random,
 ) -> Result<(), String> {
-    let case = Case::new(plate, strategy, cap, tally, random)?;
+    let case = handed(plate, strategy, cap, tally, random)?;
     let Ok(Retrace { marks, whole, .. }) = &case.due else {
         return Err(case.described("a sound plate is refused"));
     };
@@ -210,7 +209,7 @@ fn rooms(count: usize, random: &mut Random) -> Vec<[usize; 2]> {
 
 /// A damaged copy, and any slices.
 fn refused(copy: &Plate, tally: &Tally, random: &mut Random) -> Result<(), String> {
-    let case = Case::new(copy, random.pick(&[Outside, Inside]), 1_000, tally, random)?;
+    let case = handed(copy, random.pick(&[Outside, Inside]), 1_000, tally, random)?;
     for _ in 0..2 {
         let [path, marks] = [(); 2].map(|()| random.below(40) as usize);
         let slices = if case.due.is_err() && random.one_in(2) {
@@ -224,31 +223,21 @@ fn refused(copy: &Plate, tally: &Tally, random: &mut Random) -> Result<(), Strin
     case.wrapper()
 }
 
-/// A plate in slices to lend, and what is due for it.
-struct Case<'a> {
+type Case<'a> = Handed<'a, Retrace, Tally>;
+
+/// The plate with what is due of it, of which `cap` path points are worked out.
+fn handed<'a>(
     plate: &'a Plate,
     strategy: StartPointStrategy,
+    cap: usize,
     tally: &'a Tally,
-    points: Lent<f64>,
-    lengths: Lent<u32>,
-    due: Result<Retrace, Refused>,
+    random: &mut Random,
+) -> Result<Case<'a>, String> {
+    let due = retrace(&plate.points, &plate.lengths, plate.size, strategy, cap);
+    Case::new(plate, strategy, tally, due, random)
 }
 
-impl<'a> Case<'a> {
-    fn new(
-        plate: &'a Plate,
-        strategy: StartPointStrategy,
-        cap: usize,
-        tally: &'a Tally,
-        random: &mut Random,
-    ) -> Result<Self, String> {
-        let due = retrace(&plate.points, &plate.lengths, plate.size, strategy, cap)
-            .map_err(|error| described(plate, strategy, &error))?;
-        let points = Lent::holding(&plate.points, random);
-        let lengths = Lent::holding(&plate.lengths, random);
-        Ok(Self { plate, strategy, tally, points, lengths, due })
-    }
-
+impl Case<'_> {
     /// Just enough work beside output slices of these lengths.
     fn enough(&self, path: usize, marks: usize) -> Slices {
         let contours = self.plate.lengths.len();
@@ -376,36 +365,6 @@ impl<'a> Case<'a> {
             self.same("start", NAME, &start, &first.map(|(point, mark)| (*point, mark[1])))?;
         }
         self.inputs_kept(NAME)
-    }
-
-    fn inputs_kept(&self, call: &str) -> Result<(), String> {
-        self.holds("points", call, self.points.altered())?;
-        self.holds("lengths", call, self.lengths.altered())
-    }
-
-    fn holds(&self, slice: &str, call: &str, wrong: Option<Difference>) -> Result<(), String> {
-        match wrong {
-            None => Ok(()),
-            Some(wrong) => Err(self.described(&format!("{call}: of the {slice}, {wrong}"))),
-        }
-    }
-
-    fn same<A: PartialEq + Debug>(
-        &self,
-        what: &str,
-        call: &str,
-        is: &A,
-        due: &A,
-    ) -> Result<(), String> {
-        if is == due {
-            return Ok(());
-        }
-        let [is, due] = [is, due].map(|answer| format!("{answer:?}"));
-        Err(self.described(&format!("{call}: {what}: library {is:.400}, due {due:.400}")))
-    }
-
-    fn described(&self, text: &str) -> String {
-        described(self.plate, self.strategy, text)
     }
 }
 

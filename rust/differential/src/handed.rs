@@ -1,0 +1,79 @@
+//! A plate that is handed to a call: what is due of it, and whether the library gives it.
+
+use std::fmt::Debug;
+
+use harness::random::Random;
+use twillharbor::StartPointStrategy;
+
+use crate::lent::{Difference, Lent};
+use crate::plates::Plate;
+use crate::rule::Refused;
+
+/// `due` is the reference's result or the refusal; `tally` counts the calls.
+pub struct Handed<'a, Due, Tally> {
+    pub plate: &'a Plate,
+    pub strategy: StartPointStrategy,
+    pub tally: &'a Tally,
+    pub points: Lent<f64>,
+    pub lengths: Lent<u32>,
+    pub due: Result<Due, Refused>,
+}
+
+impl<'a, Due, Tally> Handed<'a, Due, Tally> {
+    /// It is an error where what is due could not be worked out.
+    pub fn new(
+        plate: &'a Plate,
+        strategy: StartPointStrategy,
+        tally: &'a Tally,
+        due: Result<Result<Due, Refused>, String>,
+        random: &mut Random,
+    ) -> Result<Self, String> {
+        let due = due.map_err(|error| described(plate, strategy, &error))?;
+        let points = Lent::holding(&plate.points, random);
+        let lengths = Lent::holding(&plate.lengths, random);
+        Ok(Self { plate, strategy, tally, points, lengths, due })
+    }
+
+    pub fn inputs_kept(&self, call: &str) -> Result<(), String> {
+        self.holds("points", call, self.points.altered())?;
+        self.holds("lengths", call, self.lengths.altered())
+    }
+
+    pub fn holds(&self, slice: &str, call: &str, wrong: Option<Difference>) -> Result<(), String> {
+        match wrong {
+            None => Ok(()),
+            Some(wrong) => Err(self.described(&format!("{call}: of the {slice}, {wrong}"))),
+        }
+    }
+
+    pub fn same<A: PartialEq + Debug>(
+        &self,
+        what: &str,
+        call: &str,
+        is: &A,
+        due: &A,
+    ) -> Result<(), String> {
+        if is == due {
+            return Ok(());
+        }
+        let [is, due] = [is, due].map(|answer| format!("{answer:?}"));
+        Err(self.described(&format!("{call}: {what}: library {is:.400}, due {due:.400}")))
+    }
+
+    pub fn described(&self, text: &str) -> String {
+        described(self.plate, self.strategy, text)
+    }
+}
+
+/// The text, with the plate, the whole of it where that is a few lines.
+fn described(plate: &Plate, strategy: StartPointStrategy, text: &str) -> String {
+    let Plate { points, lengths, size } = plate;
+    let mut text = format!("{text}\n  {} by {}, {strategy:?}", size.width, size.height);
+    if points.len() <= 256 && lengths.len() <= 64 {
+        let bits: Vec<String> = points.iter().map(|c| format!("{:016x}", c.to_bits())).collect();
+        text += &format!("\n  lengths {lengths:?}\n  points {}", bits.join(" "));
+    } else {
+        text += &format!("\n  {} lengths, {} coordinates", lengths.len(), points.len());
+    }
+    text
+}

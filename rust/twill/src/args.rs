@@ -1,0 +1,294 @@
+//! The command line.
+
+use crate::number;
+use std::path::PathBuf;
+use twillharbor::{Point, StartPointStrategy};
+
+/// What the tool was asked to do.
+#[derive(Debug, PartialEq)]
+pub enum Request {
+    /// Of a command, or of the tool.
+    Help(Option<&'static str>),
+    Version,
+    Distance(Point, Point),
+    Plate(PlateRequest),
+}
+
+/// A command on a file.
+#[derive(Debug, Clone, PartialEq)]
+pub struct PlateRequest {
+    pub command: Command,
+    pub source: Source,
+    pub width: Option<u32>,
+    pub height: Option<u32>,
+    pub strategy: Option<StartPointStrategy>,
+    pub format: Format,
+    pub output: Option<PathBuf>,
+}
+
+#[derive(Debug, Clone, Copy, PartialEq, Eq)]
+pub enum Command {
+    Retrace,
+    Straight,
+    Order,
+    Start,
+    Check,
+    Step,
+    View,
+}
+
+#[derive(Debug, Clone, PartialEq, Eq)]
+pub enum Source {
+    StandardInput,
+    File(PathBuf),
+}
+
+#[derive(Debug, Clone, Copy, PartialEq, Eq, Default)]
+pub enum Format {
+    #[default]
+    Text,
+    Json,
+    Svg,
+    PlateMarks,
+}
+
+const PLATE_COMMANDS: [(&str, Command); 7] = [
+    ("retrace", Command::Retrace),
+    ("straight", Command::Straight),
+    ("order", Command::Order),
+    ("start", Command::Start),
+    ("check", Command::Check),
+    ("step", Command::Step),
+    ("view", Command::View),
+];
+
+/// Reads the words after the tool's own name; a fault is a line for the user.
+pub fn parse(words: &[String]) -> Result<Request, String> {
+    let Some((first, rest)) = words.split_first() else {
+        return Err("no command: `twill help` lists them".into());
+    };
+    match first.as_str() {
+        "-h" | "--help" => Ok(Request::Help(None)),
+        "-V" | "--version" | "version" => Ok(Request::Version),
+        "help" => help(rest),
+        "distance" if asks_help(rest) => Ok(Request::Help(Some("distance"))),
+        "distance" => distance(rest),
+        name => match PLATE_COMMANDS.iter().find(|(known, _)| *known == name) {
+            Some((known, _)) if asks_help(rest) => Ok(Request::Help(Some(known))),
+            Some(&(known, command)) => plate(known, command, rest).map(Request::Plate),
+            None => Err(format!("`{name}` is no command: `twill help` lists them")),
+        },
+    }
+}
+
+fn asks_help(words: &[String]) -> bool {
+    words.iter().take_while(|word| *word != "--").any(|word| word == "-h" || word == "--help")
+}
+
+fn help(words: &[String]) -> Result<Request, String> {
+    let Some(word) = words.first() else {
+        return Ok(Request::Help(None));
+    };
+    let names = PLATE_COMMANDS.iter().map(|(name, _)| *name).chain(["distance"]);
+    match names.into_iter().find(|name| name == word) {
+        Some(name) if words.len() == 1 => Ok(Request::Help(Some(name))),
+        None if matches!(word.as_str(), "help" | "version") => Ok(Request::Help(None)),
+        _ => Err(format!("`{}` is no command: `twill help` lists them", words.join(" "))),
+    }
+}
+
+fn distance(words: &[String]) -> Result<Request, String> {
+    let words = words.strip_prefix(&["--".to_owned()]).unwrap_or(words);
+    let [ax, ay, bx, by] = words else {
+        return Err(format!("distance takes four numbers, ax ay bx by, not {}", words.len()));
+    };
+    let value = |word: &String| {
+        number::parse(word).ok_or_else(|| format!("distance takes four numbers; `{word}` is none"))
+    };
+    let a = Point { x: value(ax)?, y: value(ay)? };
+    let b = Point { x: value(bx)?, y: value(by)? };
+    Ok(Request::Distance(a, b))
+}
+
+fn plate(name: &str, command: Command, words: &[String]) -> Result<PlateRequest, String> {
+    let mut files: Vec<&str> = Vec::new();
+    let mut options = Options::default();
+    let mut words = words.iter().map(String::as_str);
+    while let Some(word) = words.next() {
+        if word == "--" {
+            files.extend(words.by_ref());
+        } else if word == "-" || !word.starts_with('-') {
+            files.push(word);
+        } else {
+            options.read(name, command, word, &mut words)?;
+        }
+    }
+    let source = match files[..] {
+        [] => return Err(format!("{name} takes a FILE (`-` is the standard input)")),
+        [""] => return Err(format!("{name} takes a FILE, and its name is empty")),
+        ["-"] => Source::StandardInput,
+        [file] => Source::File(file.into()),
+        [_, second, ..] => return Err(format!("{name} takes one FILE; `{second}` is a second")),
+    };
+    Ok(PlateRequest {
+        command,
+        source,
+        width: options.width,
+        height: options.height,
+        strategy: options.strategy,
+        format: options.format.unwrap_or_default(),
+        output: options.output,
+    })
+}
+
+#[derive(Default)]
+struct Options {
+    width: Option<u32>,
+    height: Option<u32>,
+    strategy: Option<StartPointStrategy>,
+    format: Option<Format>,
+    output: Option<PathBuf>,
+}
+
+impl Options {
+    /// Reads an option and its value, which is the part after `=` or the next word.
+    fn read<'a>(
+        &mut self,
+        name: &str,
+        command: Command,
+        word: &'a str,
+        rest: &mut impl Iterator<Item = &'a str>,
+    ) -> Result<(), String> {
+        let (option, joined) = match word.split_once('=') {
+            Some((option, value)) if word.starts_with("--") => (option, Some(value)),
+            _ => (word, None),
+        };
+        let joins = matches!(
+            command,
+            Command::Retrace | Command::Straight | Command::Order | Command::Start
+        );
+        let is_twice = match option {
+            "--inside" | "--outside" if joined.is_some() => {
+                return Err(format!("{option} takes no value"));
+            }
+            "--inside" => self.strategy.replace(StartPointStrategy::Inside).is_some(),
+            "--outside" => self.strategy.replace(StartPointStrategy::Outside).is_some(),
+            "--width" | "--height" => {
+                let size = size(option, value(option, joined, rest)?)?;
+                let side = if option == "--width" { &mut self.width } else { &mut self.height };
+                side.replace(size).is_some()
+            }
+            "--format" if joins => {
+                self.format.replace(format(value(option, joined, rest)?)?).is_some()
+            }
+            "-o" | "--output" if joins || command == Command::View => {
+                self.output.replace(value(option, joined, rest)?.into()).is_some()
+            }
+            _ => return Err(format!("{name} has no option {option}: see `twill help {name}`")),
+        };
+        if is_twice {
+            return Err(format!("{option} is given twice, or against another option"));
+        }
+        Ok(())
+    }
+}
+
+fn value<'a>(
+    option: &str,
+    joined: Option<&'a str>,
+    rest: &mut impl Iterator<Item = &'a str>,
+) -> Result<&'a str, String> {
+    match joined.or_else(|| rest.next()) {
+        Some("") | None => Err(format!("{option} takes a value")),
+        Some(value) => Ok(value),
+    }
+}
+
+fn size(option: &str, word: &str) -> Result<u32, String> {
+    let is_digits = word.bytes().all(|b| b.is_ascii_digit());
+    word.parse().ok().filter(|_| is_digits).ok_or_else(|| {
+        format!("{option} takes a whole number from 0 to {}, not `{word}`", u32::MAX)
+    })
+}
+
+fn format(word: &str) -> Result<Format, String> {
+    match word {
+        "text" => Ok(Format::Text),
+        "json" => Ok(Format::Json),
+        "svg" => Ok(Format::Svg),
+        "plate-marks" => Ok(Format::PlateMarks),
+        _ => Err(format!("--format is text, json, svg or plate-marks, not `{word}`")),
+    }
+}
+
+#[cfg(test)]
+mod tests {
+    use super::{Command, Format, PlateRequest, Request, Source, parse};
+    use twillharbor::{Point, StartPointStrategy};
+
+    fn parsed(line: &str) -> Result<Request, String> {
+        parse(&line.split(' ').map(str::to_owned).collect::<Vec<_>>())
+    }
+
+    #[test]
+    fn commands_on_files() {
+        let expected = PlateRequest {
+            command: Command::Retrace,
+            source: Source::File("a.svg".into()),
+            width: Some(8),
+            height: Some(2),
+            strategy: Some(StartPointStrategy::Inside),
+            format: Format::PlateMarks,
+            output: Some("out".into()),
+        };
+        for line in [
+            "retrace a.svg --width 8 --height 2 --inside --format plate-marks -o out",
+            "retrace --width=8 --height=2 --inside --format=plate-marks --output=out -- a.svg",
+        ] {
+            assert_eq!(parsed(line).as_ref(), Ok(&Request::Plate(expected.clone())), "{line}");
+        }
+        let Ok(Request::Plate(request)) = parsed("step -") else { panic!("not read") };
+        assert_eq!((request.command, request.source), (Command::Step, Source::StandardInput));
+    }
+
+    #[test]
+    fn numbers_with_a_sign_are_no_options() {
+        let points = (Point { x: -1.0, y: 8.0 }, Point { x: 0.5, y: -0.0 });
+        let expected = Ok(Request::Distance(points.0, points.1));
+        assert_eq!(parsed("distance -1 0x1p3 .5 -0"), expected);
+        assert_eq!(parsed("distance -- -1 0x1p3 .5 -0"), expected);
+    }
+
+    #[test]
+    fn help_is_given_for_each_command() {
+        assert_eq!(parsed("--help"), Ok(Request::Help(None)));
+        assert_eq!(parsed("help view"), Ok(Request::Help(Some("view"))));
+        assert_eq!(parsed("order --help"), Ok(Request::Help(Some("order"))));
+        assert_eq!(parsed("distance -h"), Ok(Request::Help(Some("distance"))));
+    }
+
+    #[test]
+    fn faults_name_the_word() {
+        let cases = [
+            ("join a", "`join` is no command: `twill help` lists them"),
+            ("retrace", "retrace takes a FILE (`-` is the standard input)"),
+            ("retrace a b", "retrace takes one FILE; `b` is a second"),
+            ("retrace a --with 3", "retrace has no option --with: see `twill help retrace`"),
+            ("step a --format json", "step has no option --format: see `twill help step`"),
+            ("check a -o b", "check has no option -o: see `twill help check`"),
+            ("order a --width", "--width takes a value"),
+            ("order a --width 1.5", "--width takes a whole number from 0 to 4294967295, not `1.5`"),
+            ("order a --width +1", "--width takes a whole number from 0 to 4294967295, not `+1`"),
+            ("order a --inside --outside", "--outside is given twice, or against another option"),
+            ("order a --inside=1", "--inside takes no value"),
+            ("order a --format xml", "--format is text, json, svg or plate-marks, not `xml`"),
+            ("distance 1 2 3", "distance takes four numbers, ax ay bx by, not 3"),
+            ("distance 1 2 3 x", "distance takes four numbers; `x` is none"),
+            ("help me", "`me` is no command: `twill help` lists them"),
+        ];
+        for (line, message) in cases {
+            assert_eq!(parsed(line), Err(message.into()), "{line}");
+        }
+        assert!(parse(&[]).is_err());
+    }
+}

@@ -1,0 +1,96 @@
+//! A joined plate, and its pairs told one by one.
+
+use crate::plate::Handed;
+use twillharbor::{Mark, MarkedPath, Pair, PairKind};
+
+/// What was handed over and what the library gave. Pair i goes from path point i − 1 to path
+/// point i, so pairs are numbered from 1.
+pub struct Joined {
+    pub plate: Handed,
+    pub path: MarkedPath,
+    pairs: Vec<Pair>,
+    /// The vertex of each path point: a start's or jump's is the one named, a cut's the end of
+    /// its segment that the point before does not have, a back-step's that of path point k.
+    visited: Vec<u32>,
+    /// For each pair the cut or jump that it is, or that it goes back over.
+    grooves: Vec<usize>,
+    /// For each vertex of the plate the contour that it is of and its number within it.
+    vertices: Vec<(usize, usize)>,
+}
+
+/// A pair with all that is shown of it. Contours count from 0, vertices and segments from 0
+/// within their contour; segment j lies between vertices j and j + 1.
+#[derive(Debug, Clone, Copy, PartialEq)]
+pub struct Told {
+    pub number: usize,
+    pub pair: Pair,
+    /// The library's plain distance of the two points.
+    pub length: f64,
+    /// Contour and vertex that are left.
+    pub from: (usize, usize),
+    /// Contour and vertex that are reached.
+    pub to: (usize, usize),
+    /// The cut or jump that the pair is, or that it goes back over.
+    pub groove: usize,
+}
+
+impl Joined {
+    pub fn new(plate: Handed, path: MarkedPath) -> Self {
+        let lengths = plate.lengths.iter().enumerate();
+        let vertices =
+            lengths.flat_map(|(c, &length)| (0..length as usize).map(move |v| (c, v))).collect();
+        let mut visited: Vec<u32> = Vec::with_capacity(path.marks().len());
+        for mark in path.marks() {
+            visited.push(match *mark {
+                Mark::Start { vertex } | Mark::Jump { vertex } => vertex,
+                Mark::Cut { segment } if visited.last() == Some(&segment) => segment + 1,
+                Mark::Cut { segment } => segment,
+                Mark::BackStep { reversed } => visited[reversed as usize],
+            });
+        }
+        let pairs: Vec<Pair> = path.pairs().collect();
+        let mut grooves: Vec<usize> = Vec::with_capacity(pairs.len());
+        for (before, pair) in pairs.iter().enumerate() {
+            grooves.push(match pair.kind {
+                PairKind::BackStep { reversed } => grooves[reversed as usize],
+                PairKind::Cut { .. } | PairKind::Jump { .. } => before + 1,
+            });
+        }
+        Self { plate, path, pairs, visited, grooves, vertices }
+    }
+
+    /// How many pairs there are; their numbers are from 1 to this.
+    pub fn count(&self) -> usize {
+        self.pairs.len()
+    }
+
+    /// A pair by its number.
+    pub fn pair(&self, number: usize) -> &Pair {
+        &self.pairs[number - 1]
+    }
+
+    /// The number of the cut or jump that a pair is, or that it goes back over.
+    pub fn groove(&self, number: usize) -> usize {
+        self.grooves[number - 1]
+    }
+
+    /// The contour of a vertex of the plate and its number within it.
+    pub fn locate(&self, vertex: u32) -> (usize, usize) {
+        self.vertices[vertex as usize]
+    }
+
+    /// All about a pair, by its number.
+    pub fn tell(&self, number: usize) -> Told {
+        let pair = *self.pair(number);
+        let distances = twillharbor::distance(pair.from, pair.to)
+            .expect("points of an accepted plate are within the distance call's limit");
+        Told {
+            number,
+            pair,
+            length: distances.plain,
+            from: self.locate(self.visited[number - 1]),
+            to: self.locate(self.visited[number]),
+            groove: self.groove(number),
+        }
+    }
+}

@@ -1,0 +1,174 @@
+//! A plate as it was read from a file.
+
+use crate::number;
+use std::fmt;
+use std::path::Path;
+use twillharbor::{Point, Size, StartPointStrategy};
+
+/// Where something stands in a file; both count from 1, columns in characters.
+#[derive(Debug, Clone, Copy, PartialEq, Eq)]
+pub struct Position {
+    pub line: usize,
+    pub column: usize,
+}
+
+impl Position {
+    /// The position of a byte of a text. Lines end as any system writes them, and a byte order
+    /// mark is no character.
+    pub fn of(text: &str, byte: usize) -> Self {
+        let before = &text.as_bytes()[..byte.min(text.len())];
+        let mut position = Self { line: 1, column: 1 };
+        for (at, &b) in before.iter().enumerate() {
+            let ends_line = b == b'\n' || b == b'\r' && text.as_bytes().get(at + 1) != Some(&b'\n');
+            let is_char_start = b & 0xC0 != 0x80;
+            if ends_line {
+                position = Self { line: position.line + 1, column: 1 };
+            } else if is_char_start && !(at == 0 && text.starts_with('\u{FEFF}')) {
+                position.column += 1;
+            }
+        }
+        position
+    }
+}
+
+impl fmt::Display for Position {
+    fn fmt(&self, f: &mut fmt::Formatter<'_>) -> fmt::Result {
+        write!(f, "{}:{}", self.line, self.column)
+    }
+}
+
+/// One line about a place in a file, without the file's name.
+#[derive(Debug, Clone, PartialEq, Eq)]
+pub struct Remark {
+    /// The byte of the text that it is about.
+    pub byte: usize,
+    pub message: String,
+}
+
+impl Remark {
+    pub fn new(byte: usize, message: impl Into<String>) -> Self {
+        Self { byte, message: message.into() }
+    }
+}
+
+/// What the library is handed, what the file says of the plate besides, and where each point
+/// stands in the file.
+#[derive(Debug, Clone, Default, PartialEq)]
+pub struct Plate {
+    /// Each point's horizontal, then its vertical coordinate, contour after contour.
+    pub points: Vec<f64>,
+    /// The contours' numbers of points.
+    pub lengths: Vec<u32>,
+    /// For each point the byte of the text at which it stands.
+    pub bytes: Vec<usize>,
+    /// The width and height that the file gives, if it does.
+    pub width: Option<u32>,
+    pub height: Option<u32>,
+    /// The strategy that the file gives, if it does.
+    pub strategy: Option<StartPointStrategy>,
+    /// What the user is to be told of, though the file was read.
+    pub notes: Vec<Remark>,
+}
+
+impl Plate {
+    /// Adds a point to the contour that was last begun.
+    pub fn push(&mut self, x: f64, y: f64, byte: usize) {
+        self.points.extend([x, y]);
+        self.bytes.push(byte);
+        *self.lengths.last_mut().expect("a contour was begun") += 1;
+    }
+
+    /// Begins a contour.
+    pub fn begin(&mut self) {
+        self.lengths.push(0);
+    }
+}
+
+/// A plate, with the size and the strategy that hold.
+#[derive(Debug, Clone, PartialEq)]
+pub struct Handed {
+    pub points: Vec<f64>,
+    pub lengths: Vec<u32>,
+    pub size: Size,
+    pub strategy: StartPointStrategy,
+}
+
+impl Handed {
+    /// The contour that a vertex is of and its number within it; vertices count over the whole
+    /// plate.
+    pub fn locate(&self, vertex: usize) -> Option<(usize, usize)> {
+        let mut first = 0;
+        for (contour, &length) in self.lengths.iter().enumerate() {
+            let next = first + length as usize;
+            if vertex < next {
+                return Some((contour, vertex - first));
+            }
+            first = next;
+        }
+        None
+    }
+
+    /// The contours' points, those of empty contours too.
+    pub fn contours(&self) -> impl Iterator<Item = Vec<Point>> {
+        let (points, _) = self.points.as_chunks();
+        let mut points = points.iter().map(|&[x, y]| Point { x, y });
+        self.lengths.iter().map(move |&length| points.by_ref().take(length as usize).collect())
+    }
+
+    /// `8 by 2, outside`.
+    pub fn terms(&self) -> String {
+        format!("{} by {}, {}", self.size.width, self.size.height, word(self.strategy))
+    }
+}
+
+/// The strategy's word in files and on the command line.
+pub const fn word(strategy: StartPointStrategy) -> &'static str {
+    match strategy {
+        StartPointStrategy::Outside => "outside",
+        StartPointStrategy::Inside => "inside",
+    }
+}
+
+/// The strategy of a word.
+pub fn strategy(word: &str) -> Option<StartPointStrategy> {
+    match word {
+        "outside" => Some(StartPointStrategy::Outside),
+        "inside" => Some(StartPointStrategy::Inside),
+        _ => None,
+    }
+}
+
+/// `(4,0.5)`.
+pub fn point(p: Point) -> String {
+    format!("({},{})", number::show(p.x), number::show(p.y))
+}
+
+/// A file's name within a line.
+pub fn file_name(path: &Path) -> String {
+    let escape =
+        |c: char| if c.is_control() { c.escape_default().collect() } else { String::from(c) };
+    path.display().to_string().chars().map(escape).collect()
+}
+
+#[cfg(test)]
+mod tests {
+    use super::{Position, file_name};
+    use std::path::Path;
+
+    #[test]
+    fn positions_count_characters_and_all_line_ends() {
+        let text = "\u{FEFF}a\u{e9}b\nc\r\nd\re";
+        for (sought, line, column) in
+            [('a', 1, 1), ('b', 1, 3), ('c', 2, 1), ('d', 3, 1), ('e', 4, 1)]
+        {
+            let position = Position::of(text, text.find(sought).unwrap());
+            assert_eq!(position, Position { line, column }, "{sought}");
+        }
+        assert_eq!(Position::of(text, usize::MAX), Position { line: 4, column: 2 });
+    }
+
+    #[test]
+    fn names_stay_on_a_line() {
+        assert_eq!(file_name(Path::new("a\n\u{1b}b \u{e9}")), "a\\n\\u{1b}b \u{e9}");
+    }
+}

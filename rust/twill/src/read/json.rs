@@ -1,0 +1,358 @@
+//! JSON: an array of contours, each an array of points, each `[x, y]` or `{"x": x, "y": y}`; or
+//! an object with such an array as `contours`, and perhaps `width`, `height` and `start`.
+//!
+//! A coordinate may also be a string with a number of the text form, as `"0x1.8p3"`, and the
+//! words NaN, Infinity and -Infinity are read, which some programs write.
+
+use super::excerpt;
+use crate::number;
+use crate::plate::{self, Plate, Remark};
+
+pub fn read(text: &str) -> Result<Plate, Remark> {
+    let mut reader = Reader { text, at: 0, plate: Plate::default() };
+    if text.starts_with('\u{FEFF}') {
+        reader.at = '\u{FEFF}'.len_utf8();
+    }
+    if reader.peek() == Some(b'{') {
+        reader.whole_plate()?;
+    } else {
+        reader.contours()?;
+    }
+    match reader.peek() {
+        None => Ok(reader.plate),
+        Some(_) => Err(reader.fault("nothing more expected after the contours")),
+    }
+}
+
+struct Reader<'a> {
+    text: &'a str,
+    at: usize,
+    plate: Plate,
+}
+
+impl<'a> Reader<'a> {
+    fn whole_plate(&mut self) -> Result<(), Remark> {
+        let mut has_contours = false;
+        let mut keys: Vec<String> = Vec::new();
+        self.members(|reader, key, byte| {
+            if keys.contains(&key) {
+                return Err(Remark::new(byte, format!("`{}` is given twice", excerpt(&key))));
+            }
+            match key.as_str() {
+                "width" => reader.plate.width = Some(reader.size(&key)?),
+                "height" => reader.plate.height = Some(reader.size(&key)?),
+                "start" => reader.start()?,
+                "contours" => {
+                    has_contours = true;
+                    reader.contours()?;
+                }
+                _ => {
+                    let message = format!(
+                        "`{}` is none of the keys contours, width, height and start",
+                        excerpt(&key)
+                    );
+                    return Err(Remark::new(byte, message));
+                }
+            }
+            keys.push(key);
+            Ok(())
+        })?;
+        if has_contours { Ok(()) } else { Err(Remark::new(self.at, "the plate has no `contours`")) }
+    }
+
+    fn contours(&mut self) -> Result<(), Remark> {
+        self.elements("an array of contours", |reader| {
+            reader.plate.begin();
+            reader.elements("a contour, an array of points", Self::point)
+        })
+    }
+
+    fn point(&mut self) -> Result<(), Remark> {
+        let is_object = self.peek() == Some(b'{');
+        let byte = self.at;
+        let (mut x, mut y) = (None, None);
+        if is_object {
+            self.members(|reader, key, byte| {
+                let coordinate = match key.as_str() {
+                    "x" => &mut x,
+                    "y" => &mut y,
+                    _ => {
+                        let message = format!("`{}` is neither x nor y", excerpt(&key));
+                        return Err(Remark::new(byte, message));
+                    }
+                };
+                if coordinate.replace(reader.coordinate()?).is_some() {
+                    return Err(Remark::new(byte, format!("`{key}` is given twice")));
+                }
+                Ok(())
+            })?;
+        } else {
+            let mut count = 0;
+            self.elements("a point, [x, y]", |reader| {
+                let value = reader.coordinate()?;
+                count += 1;
+                if count <= 2 {
+                    *(if count == 1 { &mut x } else { &mut y }) = Some(value);
+                }
+                Ok(())
+            })?;
+            if count > 2 {
+                return Err(Remark::new(byte, format!("a point has two numbers, not {count}")));
+            }
+        }
+        match (x, y) {
+            (Some(x), Some(y)) => self.plate.push(x, y, byte),
+            _ => return Err(Remark::new(byte, "a point has two numbers, x and y")),
+        }
+        Ok(())
+    }
+
+    fn coordinate(&mut self) -> Result<f64, Remark> {
+        if self.peek() == Some(b'"') {
+            let byte = self.at;
+            let string = self.string()?;
+            let fault = || Remark::new(byte, format!("`{}` is no number", excerpt(&string)));
+            return number::parse(&string).ok_or_else(fault);
+        }
+        let word = self.word();
+        let is_number = is_json_number(word) || matches!(word, "NaN" | "Infinity" | "-Infinity");
+        match number::parse(word) {
+            Some(value) if is_number => {
+                self.at += word.len();
+                Ok(value)
+            }
+            _ => Err(self.expected("a number")),
+        }
+    }
+
+    fn size(&mut self, key: &str) -> Result<u32, Remark> {
+        self.peek();
+        let word = self.word();
+        match word.parse() {
+            Ok(value) if is_json_number(word) => {
+                self.at += word.len();
+                Ok(value)
+            }
+            _ => Err(self.expected(&format!("as {key} a whole number from 0 to 4294967295"))),
+        }
+    }
+
+    fn start(&mut self) -> Result<(), Remark> {
+        self.peek();
+        let byte = self.at;
+        let word = self.string()?;
+        self.plate.strategy = plate::strategy(&word);
+        match self.plate.strategy {
+            Some(_) => Ok(()),
+            None => {
+                let message =
+                    format!("\"inside\" or \"outside\" expected, not `{}`", excerpt(&word));
+                Err(Remark::new(byte, message))
+            }
+        }
+    }
+
+    /// An array, of which `element` reads each element.
+    fn elements(
+        &mut self,
+        what: &str,
+        mut element: impl FnMut(&mut Self) -> Result<(), Remark>,
+    ) -> Result<(), Remark> {
+        if !self.take(b'[') {
+            return Err(self.expected(what));
+        }
+        if self.take(b']') {
+            return Ok(());
+        }
+        loop {
+            element(self)?;
+            if self.take(b']') {
+                return Ok(());
+            }
+            if !self.take(b',') {
+                return Err(self.expected("`,` or `]`"));
+            }
+        }
+    }
+
+    /// An object, of which `member` reads each value, given its key and the key's place.
+    fn members(
+        &mut self,
+        mut member: impl FnMut(&mut Self, String, usize) -> Result<(), Remark>,
+    ) -> Result<(), Remark> {
+        self.take(b'{');
+        if self.take(b'}') {
+            return Ok(());
+        }
+        loop {
+            self.peek();
+            let byte = self.at;
+            let key = self.string()?;
+            if !self.take(b':') {
+                return Err(self.expected("`:`"));
+            }
+            member(self, key, byte)?;
+            if self.take(b'}') {
+                return Ok(());
+            }
+            if !self.take(b',') {
+                return Err(self.expected("`,` or `}`"));
+            }
+        }
+    }
+
+    fn string(&mut self) -> Result<String, Remark> {
+        let byte = self.at;
+        if !self.take(b'"') {
+            return Err(self.expected("a string"));
+        }
+        let mut string = String::new();
+        let mut rest = self.text[self.at..].char_indices();
+        while let Some((offset, c)) = rest.next() {
+            match c {
+                '"' => {
+                    self.at += offset + 1;
+                    return Ok(string);
+                }
+                '\\' => match rest.next() {
+                    Some((_, c @ ('"' | '\\' | '/'))) => string.push(c),
+                    // No key or number here has a sign that must be escaped.
+                    _ => return Err(Remark::new(self.at + offset, "this escape is not read here")),
+                },
+                c if c < ' ' => break,
+                c => string.push(c),
+            }
+        }
+        Err(Remark::new(byte, "the string is not closed on its line"))
+    }
+
+    /// The next byte that is not blank; it goes there.
+    fn peek(&mut self) -> Option<u8> {
+        let bytes = &self.text.as_bytes()[self.at..];
+        let is_other = |b: &u8| !matches!(b, b' ' | b'\t' | b'\r' | b'\n');
+        self.at += bytes.iter().position(is_other).unwrap_or(bytes.len());
+        self.text.as_bytes().get(self.at).copied()
+    }
+
+    fn take(&mut self, expected: u8) -> bool {
+        let is_there = self.peek() == Some(expected);
+        self.at += usize::from(is_there);
+        is_there
+    }
+
+    /// What stands here, up to a blank or one of JSON's signs.
+    fn word(&mut self) -> &'a str {
+        self.peek();
+        let rest = &self.text[self.at..];
+        let is_end = |c: char| c.is_whitespace() || "[]{},:\"".contains(c);
+        &rest[..rest.find(is_end).unwrap_or(rest.len())]
+    }
+
+    fn expected(&mut self, what: &str) -> Remark {
+        self.fault(&format!("{what} expected"))
+    }
+
+    fn fault(&mut self, message: &str) -> Remark {
+        let word = self.word();
+        let found = match (word, self.peek()) {
+            (_, None) => "the end of the file".into(),
+            ("", Some(sign)) => format!("`{}`", char::from(sign)),
+            (word, _) => format!("`{}`", excerpt(word)),
+        };
+        Remark::new(self.at, format!("{message}, not {found}"))
+    }
+}
+
+/// Whether a word is a number by JSON's grammar, which has no leading zeros or points.
+fn is_json_number(word: &str) -> bool {
+    fn digits(text: &str) -> Option<&str> {
+        let rest = text.trim_start_matches(|c: char| c.is_ascii_digit());
+        (rest.len() < text.len()).then_some(rest)
+    }
+    fn number(word: &str) -> Option<&str> {
+        let whole = word.strip_prefix('-').unwrap_or(word);
+        let mut rest = match whole.strip_prefix('0') {
+            Some(rest) => rest,
+            None => digits(whole)?,
+        };
+        if let Some(fraction) = rest.strip_prefix('.') {
+            rest = digits(fraction)?;
+        }
+        if let Some(exponent) = rest.strip_prefix(['e', 'E']) {
+            rest = digits(exponent.strip_prefix(['+', '-']).unwrap_or(exponent))?;
+        }
+        Some(rest)
+    }
+    number(word) == Some("")
+}
+
+#[cfg(test)]
+mod tests {
+    use super::{is_json_number, read};
+    use twillharbor::StartPointStrategy;
+
+    #[test]
+    fn arrays_of_contours() {
+        let plate = read(" [ [[0,0],[4,-0.0]], [], [ {\"y\":1,\"x\":\"0x1.8p3\"} ] ]\n").unwrap();
+        assert_eq!(plate.lengths, [2, 0, 1]);
+        let bits: Vec<u64> = plate.points.iter().map(|x| x.to_bits()).collect();
+        assert_eq!(bits, [0.0, 0.0, 4.0, -0.0, 12.0, 1.0].map(f64::to_bits));
+        assert_eq!(plate.bytes, [4, 10, 27]);
+        assert_eq!((plate.width, plate.height, plate.strategy), (None, None, None));
+    }
+
+    #[test]
+    fn a_plate_with_size_and_start() {
+        let text = r#"{"width":8,"height":2,"start":"inside","contours":[[[NaN,-Infinity]]]}"#;
+        let plate = read(text).unwrap();
+        assert_eq!((plate.width, plate.height), (Some(8), Some(2)));
+        assert_eq!(plate.strategy, Some(StartPointStrategy::Inside));
+        assert!(plate.points[0].is_nan() && plate.points[1] == f64::NEG_INFINITY);
+    }
+
+    #[test]
+    fn numbers_follow_the_grammar() {
+        for word in ["0", "-0", "10", "0.5", "1e5", "1.25E-3", "-12e+0"] {
+            assert!(is_json_number(word), "{word}");
+        }
+        for word in ["", "-", "01", "+1", ".5", "1.", "1e", "0x1", "inf", "nan", "1e+"] {
+            assert!(!is_json_number(word), "{word}");
+        }
+    }
+
+    #[test]
+    fn faults_have_a_place() {
+        let cases = [
+            ("[", 1, "a contour, an array of points expected, not the end of the file"),
+            ("[[[0,0]]", 8, "`,` or `]` expected, not the end of the file"),
+            ("[[[0,0],]]", 8, "a point, [x, y] expected, not `]`"),
+            ("[[[0]]]", 2, "a point has two numbers, x and y"),
+            ("[[[0,1,2]]]", 2, "a point has two numbers, not 3"),
+            ("[[[0,01]]]", 5, "a number expected, not `01`"),
+            ("[[[0,\"1k\"]]]", 5, "`1k` is no number"),
+            ("[[[0,null]]]", 5, "a number expected, not `null`"),
+            ("[[0,0]]", 2, "a point, [x, y] expected, not `0`"),
+            ("[[{\"x\":1}]]", 2, "a point has two numbers, x and y"),
+            ("[[{\"x\":1,\"z\":1}]]", 9, "`z` is neither x nor y"),
+            ("[] []", 3, "nothing more expected after the contours, not `[`"),
+            ("{}", 2, "the plate has no `contours`"),
+            (
+                "{\"contour\":[]}",
+                1,
+                "`contour` is none of the keys contours, width, height and start",
+            ),
+            ("{\"width\":1,\"width\":1}", 11, "`width` is given twice"),
+            (
+                "{\"width\":1.5}",
+                9,
+                "as width a whole number from 0 to 4294967295 expected, not `1.5`",
+            ),
+            ("{\"start\":\"in\"}", 9, "\"inside\" or \"outside\" expected, not `in`"),
+            ("{\"start", 1, "the string is not closed on its line"),
+        ];
+        for (text, byte, message) in cases {
+            let remark = read(text).unwrap_err();
+            assert_eq!((remark.byte, remark.message.as_str()), (byte, message), "{text}");
+        }
+    }
+}

@@ -1,0 +1,102 @@
+//! Refusals of the library, told with what stands at their place.
+
+use crate::number::show;
+use crate::plate::{Handed, Position};
+use crate::words::{count, grouped};
+use twillharbor::{Mark, Point, Refusal, retrace_into, retrace_work};
+
+/// A plate with the file that it was read from.
+pub struct Loaded {
+    /// The file's name, for messages.
+    pub name: String,
+    pub text: String,
+    /// For each point the byte of the text at which it stands.
+    pub bytes: Vec<usize>,
+    pub plate: Handed,
+}
+
+/// One line about why a plate was refused.
+pub fn refused(loaded: &Loaded, refusal: Refusal) -> String {
+    let Loaded { name, plate, .. } = loaded;
+    let points = plate.points.len() / 2;
+    let contours = plate.lengths.len();
+    let reason = match refusal {
+        Refusal::TooManyContours => {
+            format!("{}, and 4,096 is the most", count(contours, "contour"))
+        }
+        Refusal::TooManyPoints => format!("{}, and 65,536 is the most", count(points, "point")),
+        Refusal::OffThePlate { place } => return off_the_plate(loaded, place as usize, refusal),
+        Refusal::Full { place } => full(plate, place as usize),
+        Refusal::Blank => match contours {
+            0 => "there is no contour, so there is no start".into(),
+            1 => "the contour holds no point, so there is no start".into(),
+            _ => format!("none of {contours} contours holds a point, so there is no start"),
+        },
+        _ => "the library was not handed what the file holds".into(),
+    };
+    format!("{name}: refused: {refusal}: {reason}")
+}
+
+fn off_the_plate(loaded: &Loaded, place: usize, refusal: Refusal) -> String {
+    let Loaded { name, text, bytes, plate } = loaded;
+    let vertex = place / 2;
+    let axis = if place.is_multiple_of(2) { "x" } else { "y" };
+    let position = Position::of(text, bytes[vertex]);
+    let (contour, within) = plate.locate(vertex).expect("the library names a point of the plate");
+    let value = show(plate.points[place]);
+    format!(
+        "{name}:{position}: refused: {refusal}: contour {contour}, vertex {within}, {axis} = {value}; \
+         a coordinate lies between -1,000,000 and 1,000,000"
+    )
+}
+
+/// How far the path got: what the library writes before it gives up, it leaves.
+fn full(plate: &Handed, capacity: usize) -> String {
+    let points = plate.points.len() / 2;
+    let mut path = vec![0.0; 2 * capacity];
+    let mut marks = vec![0; 2 * capacity];
+    let mut work = vec![0; retrace_work(capacity, points, plate.lengths.len())];
+    let mut distances = vec![0.0; plate.lengths.len()];
+    // The answer is known: it is the refusal that is being told.
+    let _ = retrace_into(
+        &plate.points,
+        &plate.lengths,
+        plate.size,
+        plate.strategy,
+        &mut path,
+        &mut marks,
+        &mut work,
+        &mut distances,
+    );
+    let (marks, _) = marks.as_chunks();
+    let marks: Vec<Mark> = marks.iter().filter_map(|&numbers| Mark::of(numbers)).collect();
+    let back_steps = marks.iter().filter(|mark| matches!(mark, Mark::BackStep { .. })).count();
+    let is_landing = |mark: &&Mark| matches!(mark, Mark::Start { .. } | Mark::Jump { .. });
+    let entered = marks.iter().filter(is_landing).count();
+    let held = plate.lengths.iter().filter(|&&length| length > 0).count();
+    format!(
+        "the path outgrew {} points, the most that it can have, with {} of {} contours entered and {} \
+         back-steps; each walk back over earlier grooves goes over the walks before it too, so a path can \
+         be far longer than the plate's {}; fewer and longer contours, listed in the order in which they \
+         lie, make it shorter",
+        grouped(capacity),
+        grouped(entered),
+        grouped(held),
+        grouped(back_steps),
+        count(points, "point")
+    )
+}
+
+/// One line about why the distance of two points was refused.
+pub fn distance_refused(a: Point, b: Point, refusal: Refusal) -> String {
+    let (name, value) = match refusal.place() {
+        0 => ("ax", a.x),
+        1 => ("ay", a.y),
+        2 => ("bx", b.x),
+        _ => ("by", b.y),
+    };
+    format!(
+        "distance: refused: {refusal}: {name} = {}; a coordinate lies between -2,147,483,648 and 2,147,483,648",
+        show(value)
+    )
+}

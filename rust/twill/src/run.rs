@@ -1,0 +1,187 @@
+//! The commands.
+
+use crate::args::{Command, PlateRequest, Request, Source};
+use crate::failure::Failure;
+use crate::joined::Joined;
+use crate::number::show;
+use crate::plate::{Handed, Position, Remark, file_name};
+use crate::refused::{Loaded, distance_refused, refused};
+use crate::{help, output, read, step, view, words, write};
+use std::io::Read;
+use std::path::{Path, PathBuf};
+use std::{fs, io};
+use twillharbor::{Point, Refusal, Size};
+
+pub fn run(request: &Request) -> Result<(), Failure> {
+    match request {
+        Request::Help(command) => output::print(&help::text(*command)),
+        Request::Version => output::print(concat!("twill ", env!("CARGO_PKG_VERSION"), "\n")),
+        Request::Distance(a, b) => distance(*a, *b),
+        Request::Plate(request) => plate(request),
+    }
+}
+
+fn distance(a: Point, b: Point) -> Result<(), Failure> {
+    let distances = twillharbor::distance(a, b)
+        .map_err(|refusal| Failure::refused(distance_refused(a, b, refusal)))?;
+    let (squared, plain) = (show(distances.squared), show(distances.plain));
+    output::print(&format!("squared {squared}\nplain {plain}\n"))
+}
+
+fn plate(request: &PlateRequest) -> Result<(), Failure> {
+    let read = match &request.source {
+        Source::StandardInput => Path::new("/dev/stdin"),
+        Source::File(path) => path,
+    };
+    if let Some(to) = request.output.as_deref().filter(|to| output::is_same(to, read)) {
+        let line = format!("{}: the result would replace the file that is read", file_name(to));
+        return Err(Failure::usage(line));
+    }
+    let loaded = load(request)?;
+    let Handed { points, lengths, size, strategy } = &loaded.plate;
+    let refuse = |refusal| Failure::refused(refused(&loaded, refusal));
+    let content = match request.command {
+        Command::Retrace => write::retrace(&retrace(&loaded)?, request.format),
+        Command::Straight => {
+            let entries = twillharbor::order(points, lengths, *size, *strategy).map_err(refuse)?;
+            let path = twillharbor::straight(points, lengths, *size, *strategy).map_err(refuse)?;
+            write::straight(&loaded.plate, &entries, &path, request.format)
+        }
+        Command::Order => {
+            let entries = twillharbor::order(points, lengths, *size, *strategy).map_err(refuse)?;
+            write::order(&loaded.plate, &entries, request.format)
+        }
+        Command::Start => {
+            let start = twillharbor::start(points, lengths, *size, *strategy).map_err(refuse)?;
+            write::start(&loaded.plate, start, request.format)
+        }
+        Command::Check => return check(&loaded),
+        Command::Step => {
+            return step::step(&retrace(&loaded)?, &loaded.name)
+                .map_err(|fault| Failure::file(format!("step: {fault}")));
+        }
+        Command::View => return page(request, &loaded),
+    };
+    match &request.output {
+        Some(path) => output::save(path, &content),
+        None => output::print(&content),
+    }
+}
+
+/// Reads the plate; the command line's size and strategy hold before the file's. Without either
+/// the plate is 0 by 0, and the strategy the library's own.
+fn load(request: &PlateRequest) -> Result<Loaded, Failure> {
+    let (name, text) = text(&request.source)?;
+    let located = |remark: &Remark| {
+        format!("{name}:{}: {}", Position::of(&text, remark.byte), remark.message)
+    };
+    let plate = read::read(&text).map_err(|remark| Failure::file(located(&remark)))?;
+    // They are about the file's size.
+    if request.width.is_none() || request.height.is_none() {
+        for note in &plate.notes {
+            eprintln!("twill: note: {}", located(note));
+        }
+    }
+    let size = Size {
+        width: request.width.or(plate.width).unwrap_or(0),
+        height: request.height.or(plate.height).unwrap_or(0),
+    };
+    let strategy = request.strategy.or(plate.strategy).unwrap_or_default();
+    let handed = Handed { points: plate.points, lengths: plate.lengths, size, strategy };
+    Ok(Loaded { name, bytes: plate.bytes, plate: handed, text })
+}
+
+/// A file's name for messages, and its text.
+fn text(source: &Source) -> Result<(String, String), Failure> {
+    let (name, content) = match source {
+        Source::StandardInput => {
+            let mut content = Vec::new();
+            let outcome = io::stdin().lock().read_to_end(&mut content);
+            ("standard input".into(), outcome.map(|_| content))
+        }
+        Source::File(path) => (file_name(path), fs::read(path)),
+    };
+    let content =
+        content.map_err(|fault| Failure::file(format!("{name}: {}", output::reason(&fault))))?;
+    if content.starts_with(b"\xFF\xFE") || content.starts_with(b"\xFE\xFF") {
+        return Err(Failure::file(format!(
+            "{name}:1:1: the file is UTF-16 text, and UTF-8 is read"
+        )));
+    }
+    match String::from_utf8(content) {
+        Ok(text) => Ok((name, text)),
+        Err(fault) => {
+            let at = fault.utf8_error().valid_up_to();
+            let before = String::from_utf8_lossy(&fault.as_bytes()[..at]);
+            let position = Position::of(&before, at);
+            Err(Failure::file(format!("{name}:{position}: what stands here is no UTF-8 text")))
+        }
+    }
+}
+
+/// The library makes its slices longer until the path fits, up to the limit.
+fn retrace(loaded: &Loaded) -> Result<Joined, Failure> {
+    let Handed { points, lengths, size, strategy } = &loaded.plate;
+    let path = twillharbor::retrace(points, lengths, *size, *strategy)
+        .map_err(|refusal| Failure::refused(refused(loaded, refusal)))?;
+    Ok(Joined::new(loaded.plate.clone(), path))
+}
+
+/// The answer goes to the standard output, a refusal too.
+fn check(loaded: &Loaded) -> Result<(), Failure> {
+    let Handed { points, lengths, size, strategy } = &loaded.plate;
+    let joined = match retrace(loaded) {
+        Ok(joined) => joined,
+        Err(failure) => {
+            output::print(&format!("{}\n", failure.line))?;
+            return Err(Failure::refused(String::new()));
+        }
+    };
+    let mut lines = format!(
+        "{}: accepted: {}, {}, {}\nretrace: {}\n",
+        loaded.name,
+        words::count(lengths.len(), "contour"),
+        words::count(points.len() / 2, "point"),
+        loaded.plate.terms(),
+        words::counts(joined.path.counts())
+    );
+    // The start call alone refuses a plate without a point.
+    if let Err(refusal @ Refusal::Blank) = twillharbor::start(points, lengths, *size, *strategy) {
+        lines += &format!("start: {refusal}\n");
+    }
+    output::print(&lines)
+}
+
+/// Without `-o` the page is named after the plate, and takes the place of no file but such a
+/// page. It shows the plate's name, and not the folder in which the plate lies.
+fn page(request: &PlateRequest, loaded: &Loaded) -> Result<(), Failure> {
+    let joined = retrace(loaded)?;
+    let file = match &request.source {
+        Source::StandardInput => Path::new("plate"),
+        Source::File(file) => file,
+    };
+    let path = match &request.output {
+        Some(path) => path.clone(),
+        None => own_page(file)?,
+    };
+    let name = file_name(Path::new(file.file_name().unwrap_or_default()));
+    output::save(&path, &view::page(&joined, &name))?;
+    if output::is_standard(&path) {
+        return Ok(());
+    }
+    let counts = words::counts(joined.path.counts());
+    output::print(&format!("{}: {counts}\n", file_name(&path)))
+}
+
+fn own_page(file: &Path) -> Result<PathBuf, Failure> {
+    let mut path = PathBuf::from(file.file_stem().unwrap_or_default());
+    path.as_mut_os_string().push(".html");
+    match fs::read(&path) {
+        Ok(content) if !content.starts_with(view::FIRST_LINE.as_bytes()) => {
+            let line =
+                format!("{}: is no page of this tool; name another with -o", file_name(&path));
+            Err(Failure::file(line))
+        }
+        _ => Ok(path),
+    }
+}

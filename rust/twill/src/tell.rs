@@ -1,0 +1,222 @@
+//! The words for a pair.
+//!
+//! A pair's line has its fields in a fixed order, with one space between them:
+//!
+//! ```text
+//! N cut FROM -> TO length L contour C segment J [reversed]
+//! N back-step FROM -> TO length L reverses pair K over cut G contour C segment J
+//! N back-step FROM -> TO length L reverses pair K over jump G contour C vertex V
+//! N jump FROM -> TO length L contour C vertex V to contour D vertex W
+//! ```
+//!
+//! FROM and TO are points as `(x,y)`. A reversed cut goes from vertex J + 1 to vertex J. G is the
+//! cut or jump that first made the groove that is gone back over, which is K if pair K is one;
+//! of a jump the vertex that it lands on is named. The start, before all pairs, is
+//! `0 start AT on contour C vertex V`.
+
+use crate::joined::{Joined, Told};
+use crate::number;
+use crate::plate::point;
+use twillharbor::PairKind;
+
+/// `cut`, `back-step` or `jump`.
+pub fn kind(told: &Told) -> &'static str {
+    word(told.pair.kind)
+}
+
+/// The line of a pair.
+pub fn line(joined: &Joined, told: &Told) -> String {
+    let (from, to) = (point(told.pair.from), point(told.pair.to));
+    let length = number::show(told.length);
+    let verb = match told.pair.kind {
+        PairKind::BackStep { .. } => "reverses ",
+        PairKind::Cut { .. } | PairKind::Jump { .. } => "",
+    };
+    let what = what(joined, told);
+    format!("{} {} {from} -> {to} length {length} {verb}{what}", told.number, kind(told))
+}
+
+/// The line of the start; none where the path has no point.
+pub fn start_line(joined: &Joined) -> Option<String> {
+    let (at, vertex) = joined.path.start()?;
+    Some(format!("0 start {} on {}", point(at), place(joined.locate(vertex))))
+}
+
+/// Labelled values of a pair, but for its number and kind; what matters most stands first.
+pub fn details(joined: &Joined, told: &Told) -> Vec<(&'static str, String)> {
+    let verb = match told.pair.kind {
+        PairKind::Cut { .. } => "cuts",
+        PairKind::BackStep { .. } => "reverses",
+        PairKind::Jump { .. } => "jumps",
+    };
+    let (left, reached) = (plate_vertex(joined, told.from), plate_vertex(joined, told.to));
+    let (from, to) = (place(told.from), place(told.to));
+    vec![
+        ("from", point(told.pair.from)),
+        ("to", point(told.pair.to)),
+        ("length", number::show(told.length)),
+        (verb, what(joined, told)),
+        ("mark", mark(joined, told.number)),
+        ("points", format!("path points {} and {}", told.number - 1, told.number)),
+        ("vertices", format!("{left} to {reached} of the plate, {from} to {to}")),
+    ]
+}
+
+/// Labelled values of the start; none where the path has no point.
+pub fn start_details(joined: &Joined) -> Vec<(&'static str, String)> {
+    let Some((at, vertex)) = joined.path.start() else { return Vec::new() };
+    vec![
+        ("at", point(at)),
+        ("starts", format!("on {}", place(joined.locate(vertex)))),
+        ("mark", mark(joined, 0)),
+        ("points", "path point 0".to_owned()),
+        ("vertices", format!("{vertex} of the plate")),
+    ]
+}
+
+/// The same of a kind.
+pub const fn word(kind: PairKind) -> &'static str {
+    match kind {
+        PairKind::Cut { .. } => "cut",
+        PairKind::BackStep { .. } => "back-step",
+        PairKind::Jump { .. } => "jump",
+    }
+}
+
+/// What is cut, gone back over, or jumped between.
+fn what(joined: &Joined, told: &Told) -> String {
+    match told.pair.kind {
+        PairKind::Cut { .. } if told.to.1 < told.from.1 => {
+            format!("{} reversed", named(joined, told.pair.kind))
+        }
+        PairKind::Cut { .. } => named(joined, told.pair.kind),
+        PairKind::BackStep { .. } => {
+            let groove = joined.pair(told.groove).kind;
+            let reversed = named(joined, told.pair.kind);
+            format!("{reversed} over {} {} {}", word(groove), told.groove, named(joined, groove))
+        }
+        PairKind::Jump { .. } => format!("{} to {}", place(told.from), place(told.to)),
+    }
+}
+
+/// What a mark's reference stands for.
+fn named(joined: &Joined, kind: PairKind) -> String {
+    match kind {
+        PairKind::Cut { segment } => {
+            let (contour, segment) = joined.locate(segment);
+            format!("contour {contour} segment {segment}")
+        }
+        PairKind::BackStep { reversed } => format!("pair {}", u64::from(reversed) + 1),
+        PairKind::Jump { vertex } => place(joined.locate(vertex)),
+    }
+}
+
+fn place((contour, vertex): (usize, usize)) -> String {
+    format!("contour {contour} vertex {vertex}")
+}
+
+/// A vertex's number over the whole plate.
+fn plate_vertex(joined: &Joined, (contour, vertex): (usize, usize)) -> usize {
+    joined.plate.lengths[..contour].iter().map(|&length| length as usize).sum::<usize>() + vertex
+}
+
+fn mark(joined: &Joined, path_point: usize) -> String {
+    let [kind, reference] = joined.path.marks()[path_point].numbers();
+    format!("kind {kind} reference {reference}")
+}
+
+#[cfg(test)]
+pub mod tests {
+    use super::{details, line, start_details, start_line};
+    use crate::joined::Joined;
+    use crate::plate::Handed;
+    use twillharbor::{Size, StartPointStrategy};
+
+    /// A plate's path, starting inside.
+    pub fn joined(contours: &[&[(f64, f64)]], width: u32, height: u32) -> Joined {
+        let points: Vec<f64> =
+            contours.iter().flat_map(|c| c.iter().flat_map(|p| [p.0, p.1])).collect();
+        let lengths: Vec<u32> = contours.iter().map(|c| c.len() as u32).collect();
+        let (size, strategy) = (Size { width, height }, StartPointStrategy::Inside);
+        let path = twillharbor::retrace(&points, &lengths, size, strategy).unwrap();
+        Joined::new(Handed { points, lengths, size, strategy }, path)
+    }
+
+    /// Plate E of document 01.
+    pub fn plate_e() -> Joined {
+        joined(&[&[(0.0, 0.0), (4.0, 0.0), (8.0, 0.0)], &[(0.0, 1.0)]], 0, 0)
+    }
+
+    fn lines(joined: &Joined) -> Vec<String> {
+        let pairs = (1..=joined.count()).map(|number| line(joined, &joined.tell(number)));
+        start_line(joined).into_iter().chain(pairs).collect()
+    }
+
+    #[test]
+    fn a_path_is_told_line_by_line() {
+        let expected = [
+            "0 start (0,0) on contour 0 vertex 0",
+            "1 cut (0,0) -> (4,0) length 4 contour 0 segment 0",
+            "2 cut (4,0) -> (8,0) length 4 contour 0 segment 1",
+            "3 back-step (8,0) -> (4,0) length 4 reverses pair 2 over cut 2 contour 0 segment 1",
+            "4 back-step (4,0) -> (0,0) length 4 reverses pair 1 over cut 1 contour 0 segment 0",
+            "5 jump (0,0) -> (0,1) length 1 contour 0 vertex 0 to contour 1 vertex 0",
+        ];
+        assert_eq!(lines(&plate_e()), expected);
+    }
+
+    /// Plate F of document 01: the second contour is entered in its middle.
+    #[test]
+    fn a_cut_from_the_upper_vertex_is_reversed() {
+        let plate = joined(&[&[(4.0, 0.0)], &[(0.0, 1.0), (4.0, 1.0), (8.0, 1.0)]], 8, 0);
+        let expected = [
+            "0 start (4,0) on contour 0 vertex 0",
+            "1 jump (4,0) -> (4,1) length 1 contour 0 vertex 0 to contour 1 vertex 1",
+            "2 cut (4,1) -> (8,1) length 4 contour 1 segment 1",
+            "3 back-step (8,1) -> (4,1) length 4 reverses pair 2 over cut 2 contour 1 segment 1",
+            "4 cut (4,1) -> (0,1) length 4 contour 1 segment 0 reversed",
+        ];
+        assert_eq!(lines(&plate), expected);
+    }
+
+    /// Plate G of document 01.
+    #[test]
+    fn a_back_step_over_a_jump_names_where_it_landed() {
+        let plate = joined(&[&[(0.0, 0.0)], &[(1.0, 0.0)], &[(0.0, 1.0)]], 0, 0);
+        let expected =
+            "2 back-step (1,0) -> (0,0) length 1 reverses pair 1 over jump 1 contour 1 vertex 0";
+        assert_eq!(lines(&plate)[2], expected);
+    }
+
+    #[test]
+    fn numbers_are_told_in_full() {
+        let plate = joined(&[&[(0.1, -123_456.789_012_345_67), (-0.0, 5e-324)]], 0, 0);
+        let told = line(&plate, &plate.tell(1));
+        assert!(
+            told.contains("(0.1,-123456.78901234567)") && told.contains("(-0,5e-324)"),
+            "{told}"
+        );
+    }
+
+    #[test]
+    fn details_hold_the_mark_and_both_numberings() {
+        let plate = joined(&[&[(4.0, 0.0)], &[(0.0, 1.0), (4.0, 1.0), (8.0, 1.0)]], 8, 0);
+        let expected = [
+            ("from", "(4,1)"),
+            ("to", "(0,1)"),
+            ("length", "4"),
+            ("cuts", "contour 1 segment 0 reversed"),
+            ("mark", "kind 1 reference 1"),
+            ("points", "path points 3 and 4"),
+            ("vertices", "2 to 1 of the plate, contour 1 vertex 1 to contour 1 vertex 0"),
+        ];
+        assert_eq!(details(&plate, &plate.tell(4)), expected.map(|(l, v)| (l, v.to_owned())));
+        assert_eq!(start_details(&plate)[2], ("mark", "kind 0 reference 0".to_owned()));
+    }
+
+    #[test]
+    fn an_empty_path_has_no_start() {
+        let plate = joined(&[], 0, 0);
+        assert_eq!((start_line(&plate), start_details(&plate)), (None, Vec::new()));
+    }
+}

@@ -1,0 +1,127 @@
+// The path, and what follows from its marks.
+
+const START = 0, CUT = 1, BACK_STEP = 2, JUMP = 3;
+const KINDS = ["start", "cut", "back-step", "jump"];
+const COLOURS = ["#111111", "#111111", "#d55e00", "#0072b2"];
+const PALE = "#b9c2cc", FRAME = "#d3dae1", EDGE = "#333333", HALO = "#f0e442", SHEET = "#ffffff";
+
+const element = (id) => document.getElementById(id);
+const data = JSON.parse(element("data").textContent);
+
+// ---- The path: all that is shown of it follows from the data block.
+
+const path = Float64Array.from(data.path);
+const marks = Uint32Array.from(data.marks);
+const lengths = Float64Array.from(data.lengths);
+const points = path.length / 2;
+const pairs = Math.max(points - 1, 0);
+
+/** The first vertex of each contour. */
+const firsts = new Uint32Array(data.contours.length);
+data.contours.reduce((first, length, contour) => { firsts[contour] = first; return first + length; }, 0);
+
+const kindOf = (point) => marks[2 * point];
+const referenceOf = (point) => marks[2 * point + 1];
+
+/** The vertex of each path point. */
+const vertices = new Uint32Array(points);
+/** For each pair the cut or jump that it is, or that it goes back over. */
+const grooves = new Uint32Array(points);
+/** 1 for each pair that goes along its groove against the sense in which that was engraved. */
+const against = new Uint8Array(points);
+/** The jumps' pair numbers, in order. */
+const jumps = new Uint32Array(data.jumps);
+(() => {
+  let jump = 0;
+  for (let i = 0; i < points; i++) {
+    const kind = kindOf(i), reference = referenceOf(i);
+    vertices[i] = reference;
+    grooves[i] = i;
+    if (kind === CUT && vertices[i - 1] === reference) {
+      vertices[i] = reference + 1;
+    } else if (kind === BACK_STEP) {
+      vertices[i] = vertices[reference];
+      grooves[i] = grooves[reference + 1];
+      against[i] = 1 - against[reference + 1];
+    } else if (kind === JUMP) {
+      jumps[jump++] = i;
+    }
+  }
+})();
+
+/** How many of the sorted numbers are at most this one. */
+function countUpTo(numbers, limit) {
+  let low = 0, high = numbers.length;
+  while (low < high) {
+    const middle = (low + high) >>> 1;
+    if (numbers[middle] <= limit) low = middle + 1; else high = middle;
+  }
+  return low;
+}
+
+/** The contour of a vertex and its number within it. Of contours with the same first vertex
+ *  only the last holds a point. */
+function locate(vertex) {
+  const contour = countUpTo(firsts, vertex) - 1;
+  return [contour, vertex - firsts[contour]];
+}
+
+/** What the panel shows of a pair; null if there is none of this number. */
+function told(number) {
+  if (!(number >= 1 && number <= pairs)) return null;
+  const at = (point) => [path[2 * point], path[2 * point + 1]];
+  const kind = kindOf(number), reference = referenceOf(number);
+  const groove = grooves[number];
+  const result = {
+    number, kind: KINDS[kind], mark: [kind, reference], length: lengths[number - 1],
+    from: at(number - 1), to: at(number),
+    fromVertex: locate(vertices[number - 1]), toVertex: locate(vertices[number]),
+    reversed: kind === BACK_STEP ? reference + 1 : null, groove, grooveKind: KINDS[kindOf(groove)],
+    contour: null, segment: null, sense: null,
+  };
+  if (kindOf(groove) === CUT) {
+    [result.contour, result.segment] = locate(referenceOf(groove));
+    result.sense = vertices[groove] > vertices[groove - 1] ? "forward" : "reversed";
+  }
+  return result;
+}
+
+// ---- What is drawn: each groove once, and beside it once for each sense in which the path goes
+// over it again. The items are pair numbers in order, so what a pair has drawn is a first part.
+
+const runs = new Float64Array(points);
+const items = (() => {
+  const again = new Uint8Array(points);
+  const kept = new Uint32Array(pairs);
+  let count = 0;
+  for (let i = 1; i < points; i++) {
+    if (kindOf(i) !== BACK_STEP) { kept[count++] = i; continue; }
+    // Along a run of back-steps the dots keep their distance from one pair to the next.
+    if (kindOf(i - 1) === BACK_STEP) runs[i] = runs[i - 1] + lengths[i - 2];
+    const sense = 1 + against[i];
+    if (again[grooves[i]] & sense) continue;
+    again[grooves[i]] |= sense;
+    kept[count++] = i;
+  }
+  return kept.slice(0, count);
+})();
+
+/** Whether a path point is on a contour that has no segment. */
+const isLone = (point) => data.contours[locate(vertices[point])[0]] === 1;
+
+const bounds = (() => {
+  let [left, top, right, bottom] = [Infinity, Infinity, -Infinity, -Infinity];
+  for (let i = 0; i < path.length; i += 2) {
+    left = Math.min(left, path[i]); right = Math.max(right, path[i]);
+    top = Math.min(top, path[i + 1]); bottom = Math.max(bottom, path[i + 1]);
+  }
+  if (!points) return { left: 0, top: 0, right: data.width || 1, bottom: data.height || 1 };
+  // The plate's own rectangle is shown too, unless the contours would become small by it.
+  const outer = {
+    left: Math.min(left, 0), top: Math.min(top, 0),
+    right: Math.max(right, data.width), bottom: Math.max(bottom, data.height),
+  };
+  const size = Math.max(right - left, bottom - top);
+  const isNear = !size || Math.max(outer.right - outer.left, outer.bottom - outer.top) <= 2 * size;
+  return isNear && data.width && data.height ? outer : { left, top, right, bottom };
+})();

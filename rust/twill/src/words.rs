@@ -1,0 +1,48 @@
+//! Numbers in sentences.
+
+use twillharbor::Counts;
+
+/// `1 jump`, `2 jumps`.
+pub fn count(number: usize, what: &str) -> String {
+    format!("{} {what}{}", grouped(number), if number == 1 { "" } else { "s" })
+}
+
+/// `1,048,576`.
+pub fn grouped(number: usize) -> String {
+    let digits = number.to_string();
+    let mut grouped = String::new();
+    for (place, digit) in digits.chars().enumerate() {
+        if place > 0 && (digits.len() - place).is_multiple_of(3) {
+            grouped.push(',');
+        }
+        grouped.push(digit);
+    }
+    grouped
+}
+
+/// `6 points: 2 cuts, 2 back-steps, 1 jump`.
+pub fn counts(counts: Counts) -> String {
+    format!(
+        "{}: {}, {}, {}",
+        count(counts.points, "point"),
+        count(counts.cuts, "cut"),
+        count(counts.back_steps, "back-step"),
+        count(counts.jumps, "jump")
+    )
+}
+
+#[cfg(test)]
+mod tests {
+    use super::{count, counts};
+    use twillharbor::Counts;
+
+    #[test]
+    fn numbers_are_grouped_and_plural() {
+        assert_eq!(count(0, "jump"), "0 jumps");
+        assert_eq!(count(1, "jump"), "1 jump");
+        assert_eq!(count(999, "cut"), "999 cuts");
+        assert_eq!(count(1_048_576, "point"), "1,048,576 points");
+        let of = Counts { points: 1000, cuts: 1, back_steps: 12_345, jumps: 2 };
+        assert_eq!(counts(of), "1,000 points: 1 cut, 12,345 back-steps, 2 jumps");
+    }
+}

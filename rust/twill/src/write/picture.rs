@@ -1,0 +1,268 @@
+//! Pictures in SVG. The three kinds of pair differ without colour too: a cut is a thin line, a
+//! groove that is gone back over has a wide pale band under it, and a jump is dashed.
+
+use crate::joined::Joined;
+use crate::number::show;
+use crate::plate::Handed;
+use crate::words;
+use std::collections::BTreeSet;
+use std::fmt::Write;
+use twillharbor::{Entry, PairKind, Point};
+
+const CUT: &str = "#12263a";
+const BACK_STEP: &str = "#e69f00";
+const JUMP: &str = "#c1440e";
+const START: &str = "#00785a";
+
+/// The part of the plane that is drawn.
+struct Frame {
+    left: f64,
+    top: f64,
+    width: f64,
+    height: f64,
+    /// The width of a line.
+    unit: f64,
+}
+
+impl Frame {
+    /// All points with a margin around them.
+    fn around(points: &[f64]) -> Self {
+        let (points, _) = points.as_chunks::<2>();
+        let least = |axis: usize| points.iter().map(|p| p[axis]).fold(f64::INFINITY, f64::min);
+        let most = |axis: usize| points.iter().map(|p| p[axis]).fold(f64::NEG_INFINITY, f64::max);
+        let (left, top, right, bottom) = match points {
+            [] => (0.0, 0.0, 1.0, 1.0),
+            _ => (least(0), least(1), most(0), most(1)),
+        };
+        let side = (right - left).max(bottom - top).max(1e-3);
+        let unit = side / 320.0;
+        let margin = 16.0 * unit;
+        // Wide enough for the words under the plate.
+        let width = (right - left + 2.0 * margin).max(210.0 * unit);
+        Self {
+            left: (left + right - width) / 2.0,
+            top: top - margin,
+            width,
+            height: bottom - top + 2.0 * margin,
+            unit,
+        }
+    }
+
+    /// A picture: `foot` units are kept free under the plate.
+    fn picture(&self, title: &str, foot: f64, body: &str) -> String {
+        let (left, top, width) = (show(self.left), show(self.top), show(self.width));
+        let height = show(self.height + foot * self.unit);
+        let arrow = format!(
+            "<marker id=\"arrow\" viewBox=\"0 0 6 6\" refX=\"6\" refY=\"3\" markerWidth=\"4\" \
+             markerHeight=\"4\" orient=\"auto\"><path d=\"M0,0L6,3L0,6Z\" fill=\"{JUMP}\"/></marker>"
+        );
+        format!(
+            "<svg xmlns=\"http://www.w3.org/2000/svg\" viewBox=\"{left} {top} {width} {height}\">\n\
+             <title>{title}</title>\n<defs>{arrow}</defs>\n\
+             <rect x=\"{left}\" y=\"{top}\" width=\"{width}\" height=\"{height}\" fill=\"#fff\"/>\n\
+             <g fill=\"none\" stroke-linecap=\"round\" stroke-linejoin=\"round\">\n{body}</g>\n</svg>\n"
+        )
+    }
+
+    fn cuts(&self, data: &str) -> String {
+        self.lines("cuts", data, CUT, 1.0, "")
+    }
+
+    fn back_steps(&self, data: &str) -> String {
+        self.lines("back-steps", data, BACK_STEP, 3.6, " stroke-opacity=\"0.5\"")
+    }
+
+    /// Each jump is a dashed arrow, and one of length zero a dot.
+    fn jumps(&self, jumps: &[(Point, Point)]) -> String {
+        let drawn: String = jumps
+            .iter()
+            .map(|&(from, to)| {
+                if from == to {
+                    return self.circle(to, 1.3, &format!("fill=\"{JUMP}\" stroke=\"none\""));
+                }
+                let mut line = Lines::default();
+                line.add(from, to);
+                format!("<path d=\"{}\" marker-end=\"url(#arrow)\"/>\n", line.data)
+            })
+            .collect();
+        let dashes =
+            format!(" stroke-dasharray=\"{} {}\"", show(3.0 * self.unit), show(2.4 * self.unit));
+        self.group("jumps", JUMP, 1.0, &dashes, &drawn)
+    }
+
+    /// Lines of one style; without data there are none.
+    fn lines(&self, class: &str, data: &str, colour: &str, width: f64, more: &str) -> String {
+        let drawn = if data.is_empty() { String::new() } else { format!("<path d=\"{data}\"/>\n") };
+        self.group(class, colour, width, more, &drawn)
+    }
+
+    fn group(&self, class: &str, colour: &str, width: f64, more: &str, drawn: &str) -> String {
+        if drawn.is_empty() {
+            return String::new();
+        }
+        let width = show(width * self.unit);
+        format!(
+            "<g class=\"{class}\" stroke=\"{colour}\" stroke-width=\"{width}\"{more}>\n{drawn}</g>\n"
+        )
+    }
+
+    /// Dots for contours of one point, which have no line.
+    fn dots<'a>(&self, points: impl Iterator<Item = &'a Point>) -> String {
+        points.map(|p| self.circle(*p, 1.0, &format!("fill=\"{CUT}\""))).collect()
+    }
+
+    fn ring(&self, p: Point) -> String {
+        let stroke = format!(
+            "class=\"start\" stroke=\"{START}\" stroke-width=\"{}\"",
+            show(1.2 * self.unit)
+        );
+        self.circle(p, 3.5, &stroke)
+    }
+
+    fn circle(&self, p: Point, radius: f64, style: &str) -> String {
+        let radius = show(radius * self.unit);
+        format!("<circle cx=\"{}\" cy=\"{}\" r=\"{radius}\" {style}/>\n", show(p.x), show(p.y))
+    }
+
+    /// Text in letters of a fixed size, scaled: browsers bound the size itself.
+    fn text(&self, p: Point, text: &str) -> String {
+        let (x, y, unit) = (show(p.x), show(p.y), show(self.unit));
+        format!(
+            "<text transform=\"translate({x},{y}) scale({unit})\" font-family=\"sans-serif\" \
+             font-size=\"7\" fill=\"{CUT}\" stroke=\"none\">{text}</text>\n"
+        )
+    }
+}
+
+/// The path with its cuts, back-steps, jumps and start, and their numbers under it. A jump of
+/// length zero is a dot.
+pub fn retrace(joined: &Joined) -> String {
+    let frame = Frame::around(&joined.plate.points);
+    let mut walked_back = BTreeSet::new();
+    let (mut cuts, mut jumps) = (Lines::default(), Vec::new());
+    for number in 1..=joined.count() {
+        let pair = joined.pair(number);
+        match pair.kind {
+            PairKind::Cut { .. } => cuts.add(pair.from, pair.to),
+            PairKind::Jump { .. } => jumps.push((pair.from, pair.to)),
+            PairKind::BackStep { .. } => {
+                walked_back.insert(joined.groove(number));
+            }
+        }
+    }
+    let mut back_steps = Lines::default();
+    for &number in &walked_back {
+        back_steps.add(joined.pair(number).from, joined.pair(number).to);
+    }
+    let contours: Vec<Vec<Point>> = joined.plate.contours().collect();
+    let dots = contours.iter().filter(|contour| contour.len() == 1).flatten();
+    let mut body = frame.back_steps(&back_steps.data) + &frame.cuts(&cuts.data);
+    body += &frame.dots(dots);
+    body += &frame.jumps(&jumps);
+    body += &joined.path.start().map_or(String::new(), |(p, _)| frame.ring(p));
+    body += &legend(&frame, joined);
+    let counts = joined.path.counts();
+    frame.picture(&format!("Retraced path: {}", words::counts(counts)), 16.0, &body)
+}
+
+/// A sample of each style with how many there are.
+fn legend(frame: &Frame, joined: &Joined) -> String {
+    let counts = joined.path.counts();
+    let unit = frame.unit;
+    let y = frame.top + frame.height + 7.0 * unit;
+    let column = frame.width / 3.0;
+    let mut body = String::new();
+    for (place, (number, what)) in
+        [(counts.cuts, "cut"), (counts.back_steps, "back-step"), (counts.jumps, "jump")]
+            .into_iter()
+            .enumerate()
+    {
+        let x = frame.left + place as f64 * column + 7.0 * unit;
+        let (from, to) = (Point { x, y }, Point { x: x + 13.0 * unit, y });
+        let mut sample = Lines::default();
+        sample.add(from, to);
+        body += &match what {
+            "cut" => frame.cuts(&sample.data),
+            "back-step" => frame.back_steps(&sample.data) + &frame.cuts(&sample.data),
+            _ => frame.jumps(&[(from, to)]),
+        };
+        let at = Point { x: x + 16.0 * unit, y: y + 2.4 * unit };
+        body += &frame.text(at, &words::count(number, what));
+    }
+    format!("<g id=\"legend\">\n{body}</g>\n")
+}
+
+/// The contours, and the lines that join each to the next.
+pub fn straight(plate: &Handed, entries: &[Entry], path: &[Point]) -> String {
+    let frame = Frame::around(&plate.points);
+    let (mut cuts, mut jumps) = (Lines::default(), Vec::new());
+    let mut dots = Vec::new();
+    let mut rest = path;
+    let mut last: Option<Point> = None;
+    for entry in entries {
+        let (contour, after) = rest.split_at(plate.lengths[entry.contour as usize] as usize);
+        if let (Some(from), Some(&to)) = (last, contour.first()) {
+            jumps.push((from, to));
+        }
+        cuts.all(contour);
+        dots.extend(contour.first().filter(|_| contour.len() == 1));
+        last = contour.last().copied();
+        rest = after;
+    }
+    let mut body = frame.cuts(&cuts.data) + &frame.dots(dots.into_iter()) + &frame.jumps(&jumps);
+    body += &path.first().map_or(String::new(), |&p| frame.ring(p));
+    frame.picture(&format!("Straight path: {}", words::count(path.len(), "point")), 0.0, &body)
+}
+
+/// All contours, and where those of the order begin, numbered from 1.
+pub fn order(plate: &Handed, entries: &[Entry]) -> String {
+    let frame = Frame::around(&plate.points);
+    let contours: Vec<Vec<Point>> = plate.contours().collect();
+    let mut cuts = Lines::default();
+    for contour in &contours {
+        cuts.all(contour);
+    }
+    let dots = contours.iter().filter(|contour| contour.len() == 1).flatten();
+    let mut body = frame.cuts(&cuts.data) + &frame.dots(dots);
+    for (place, entry) in entries.iter().enumerate() {
+        let contour = &contours[entry.contour as usize];
+        let first = if entry.reversed { contour.last() } else { contour.first() };
+        if let Some(&first) = first {
+            let beside = Point { x: first.x + 2.0 * frame.unit, y: first.y - 2.0 * frame.unit };
+            body += &frame.ring(first);
+            body += &frame.text(beside, &(place + 1).to_string());
+        }
+    }
+    frame.picture(&format!("Order: {}", words::count(entries.len(), "contour")), 0.0, &body)
+}
+
+/// Path data, a line of text a run of lines.
+#[derive(Default)]
+struct Lines {
+    data: String,
+    end: Option<Point>,
+}
+
+impl Lines {
+    /// A line, which goes on from the last if that ends where it begins.
+    fn add(&mut self, from: Point, to: Point) {
+        if self.end != Some(from) {
+            let gap = if self.data.is_empty() { "" } else { "\n" };
+            self.put(&format!("{gap}M"), from);
+        }
+        self.put("L", to);
+    }
+
+    fn all(&mut self, points: &[Point]) {
+        self.end = None;
+        for ends in points.windows(2) {
+            self.add(ends[0], ends[1]);
+        }
+    }
+
+    fn put(&mut self, command: &str, p: Point) {
+        write!(self.data, "{command}{},{}", show(p.x), show(p.y))
+            .expect("a string takes all that is written");
+        self.end = Some(p);
+    }
+}

@@ -1,0 +1,226 @@
+//! `twill step` through a pipe, and with keys in a terminal. The terminal is the one that `script`
+//! of util-linux makes; each key waits for what the one before has to show.
+
+use std::io::{BufRead, BufReader, Read, Write};
+use std::path::PathBuf;
+use std::process::{Child, ChildStdin, Command, Output, Stdio};
+use std::sync::mpsc::{self, Receiver};
+use std::thread;
+use std::time::Duration;
+
+const TWILL: &str = env!("CARGO_BIN_EXE_twill");
+/// Plate E of document 01: cut, cut, back-step, back-step, jump.
+const PLATE_E: &str = "size 0 0\nstart inside\n0 0\n4 0\n8 0\n\n0 1\n";
+const LINES_E: &str = "\
+0 start (0,0) on contour 0 vertex 0
+1 cut (0,0) -> (4,0) length 4 contour 0 segment 0
+2 cut (4,0) -> (8,0) length 4 contour 0 segment 1
+3 back-step (8,0) -> (4,0) length 4 reverses pair 2 over cut 2 contour 0 segment 1
+4 back-step (4,0) -> (0,0) length 4 reverses pair 1 over cut 1 contour 0 segment 0
+5 jump (0,0) -> (0,1) length 1 contour 0 vertex 0 to contour 1 vertex 0
+";
+
+/// The path of a file with this text; it is there whole even where tests run twice at once.
+fn plate(name: &str, text: &str) -> PathBuf {
+    let folder = PathBuf::from(env!("CARGO_TARGET_TMPDIR"));
+    let (path, new) = (folder.join(name), folder.join(format!("{name}-{}", std::process::id())));
+    std::fs::write(&new, text).and_then(|()| std::fs::rename(&new, &path)).unwrap();
+    path
+}
+
+fn piped(name: &str, text: &str) -> Output {
+    let mut command = Command::new(TWILL);
+    command.arg("step").arg(plate(name, text)).stdin(Stdio::null()).output().unwrap()
+}
+
+#[test]
+fn a_pipe_gets_a_line_a_pair() {
+    for (name, text, lines) in [
+        ("piped-e", PLATE_E, LINES_E),
+        ("piped-one", "size 0 0\nstart inside\n1 2\n", "0 start (1,2) on contour 0 vertex 0\n"),
+        ("piped-none", "size 0 0\nstart inside\n", ""),
+    ] {
+        let output = piped(name, text);
+        assert_eq!(String::from_utf8_lossy(&output.stdout), lines);
+        assert!(output.status.success() && output.stderr.is_empty(), "{output:?}");
+    }
+}
+
+#[test]
+fn a_pipe_that_is_closed_early_is_no_error() {
+    // Far more lines than a pipe holds.
+    let points: String = (0..20_000).map(|n| format!("{n} {}\n", n % 7)).collect();
+    let path = plate("closed", &format!("size 0 0\nstart inside\n{points}"));
+    let mut command = Command::new(TWILL);
+    command.arg("step").arg(path).stdin(Stdio::null());
+    let mut child = command.stdout(Stdio::piped()).stderr(Stdio::piped()).spawn().unwrap();
+    let mut line = String::new();
+    BufReader::with_capacity(64, child.stdout.take().unwrap()).read_line(&mut line).unwrap();
+    assert!(line.starts_with("0 start (0,0) on contour 0 "), "{line}");
+    let output = child.wait_with_output().unwrap();
+    assert!(output.status.success() && output.stderr.is_empty(), "{output:?}");
+}
+
+/// A command in a terminal.
+struct Session {
+    child: Child,
+    keys: Option<ChildStdin>,
+    parts: Receiver<Vec<u8>>,
+    seen: String,
+    /// As far as what was seen has been asked for.
+    read: usize,
+}
+
+impl Session {
+    /// Steps through plate E in a terminal of this size, with words before the command, such as
+    /// settings of the environment.
+    fn new(name: &str, size: &str, before: &str) -> Self {
+        let file = plate(name, PLATE_E);
+        let step = format!("{before} '{TWILL}' step '{}'", file.display());
+        let settings = "echo settings $(stty -g).";
+        let shell = format!("stty {size}; {settings}; {step}; echo status $?; {settings}");
+        let mut command = Command::new("script");
+        command.args(["-qec", &shell, "/dev/null"]).env("SHELL", "/bin/sh").env("TERM", "xterm");
+        command.env_remove("NO_COLOR").stdin(Stdio::piped()).stdout(Stdio::piped());
+        let mut child = command.spawn().expect("script of util-linux is there");
+        let (keys, mut stdout) = (child.stdin.take(), child.stdout.take().unwrap());
+        let (sender, parts) = mpsc::channel();
+        thread::spawn(move || {
+            let mut buffer = [0; 4096];
+            while let Ok(length @ 1..) = stdout.read(&mut buffer) {
+                if sender.send(buffer[..length].to_vec()).is_err() {
+                    return;
+                }
+            }
+        });
+        Self { child, keys, parts, seen: String::new(), read: 0 }
+    }
+
+    /// Waits for a text after those that were waited for before.
+    fn wait(&mut self, text: &str) {
+        loop {
+            if let Some(at) = self.seen[self.read..].find(text) {
+                self.read += at + text.len();
+                return;
+            }
+            match self.parts.recv_timeout(Duration::from_secs(60)) {
+                Ok(part) => self.seen += &String::from_utf8_lossy(&part),
+                Err(error) => panic!("no {text:?}, {error}: {:?}", &self.seen[self.read..]),
+            }
+        }
+    }
+
+    fn send(&mut self, keys: &str) {
+        let pipe = self.keys.as_mut().unwrap();
+        pipe.write_all(keys.as_bytes()).and_then(|()| pipe.flush()).unwrap();
+    }
+
+    /// Sends keys and waits for the heading that they lead to.
+    fn press(&mut self, keys: &str, heading: &str) {
+        self.send(keys);
+        self.wait(heading);
+    }
+
+    /// Waits for the end, which is a success; the settings of the terminal are as before.
+    fn end(mut self) -> String {
+        self.wait("status 0\r\n");
+        self.wait(".\r\n");
+        drop(self.keys.take());
+        assert!(self.child.wait().unwrap().success());
+        let settings =
+            self.seen.split("settings ").skip(1).filter_map(|text| text.split('.').next());
+        let settings: Vec<&str> = settings.collect();
+        assert!(matches!(settings[..], [before, after] if before == after), "{settings:?}");
+        self.seen
+    }
+}
+
+/// The rows of the last screen that was shown.
+fn screen(seen: &str) -> Vec<String> {
+    let shown = &seen[..seen.rfind("\x1B[?7h").expect("the screen was left")];
+    let last = &shown[shown.rfind("\x1B[1;1H").expect("a screen was shown")..];
+    let mut rows: Vec<String> = Vec::new();
+    for part in last.split("\x1B[").skip(1) {
+        let end = part.find(|c: char| c.is_ascii_alphabetic()).unwrap();
+        if part[end..].starts_with('H') {
+            rows.push(String::new());
+        }
+        *rows.last_mut().unwrap() += &part[end + 1..];
+    }
+    rows
+}
+
+#[test]
+fn keys_step_through_the_path() {
+    let mut session = Session::new("keys", "cols 80 rows 24", "");
+    session.wait("pair 1 of 5  - cut");
+    for (keys, heading) in [
+        ("\x1B[C", "pair 2 of 5  - cut"),
+        ("n", "pair 3 of 5  ~ back-step"),
+        (" ", "pair 4 of 5  ~ back-step"),
+        ("\x1BOD", "pair 3 of 5  ~ back-step"),
+        ("\x7F", "pair 2 of 5  - cut"),
+        ("j", "pair 5 of 5  ^ jump"),
+        ("\x1B[1~", "pair 1 of 5  - cut"),
+        ("\x1B[F", "pair 5 of 5  ^ jump"),
+        ("2\r", "pair 2 of 5  - cut"),
+        ("g9\x7F4\n", "pair 4 of 5  ~ back-step"),
+        ("9\n", "There is no pair 9; the last is 5."),
+        ("?", "j next, J previous"),
+        ("x\x1AB", "pair 4 of 5  ~ back-step"),
+    ] {
+        session.press(keys, heading);
+    }
+    session.send("q");
+    let rows = screen(&session.end());
+    assert_eq!(rows.len(), 24);
+    assert_eq!(rows[5], "reverses   pair 1 over cut 1 contour 0 segment 0");
+    let listed = [
+        "  3 ~ back-step (8,0) -> (4,0) length 4 reverses pair 2 over cut 2 contour 0 ..",
+        "> 4 ~ back-step (4,0) -> (0,0) length 4 reverses pair 1 over cut 1 contour 0 ..",
+        "  5 ^ jump      (0,0) -> (0,1) length 1 contour 0 vertex 0 to contour 1 vertex 0",
+    ];
+    assert_eq!(rows[14..17], listed);
+}
+
+#[test]
+fn each_way_to_leave_restores_the_terminal() {
+    for (name, keys) in [("ctrl-c", "\x03"), ("ctrl-d", "\x04"), ("escape", "\x1B"), ("end", "")] {
+        let mut session = Session::new(name, "cols 40 rows 12", "");
+        session.wait("pair 1 of 5");
+        match keys {
+            "" => drop(session.keys.take()),
+            keys => session.send(keys),
+        }
+        let seen = session.end();
+        assert!(
+            seen.contains("\x1B[?1049h") && seen.contains("\x1B[?25h\x1B[?1049l"),
+            "{name}: {seen:?}"
+        );
+    }
+}
+
+#[test]
+fn a_narrow_terminal_is_not_overrun() {
+    let mut session = Session::new("narrow", "cols 10 rows 5", "NO_COLOR=1");
+    session.wait("1 - cut");
+    session.press("3\n", "back-step");
+    session.press("\t", "over cut 2");
+    session.send("q");
+    let seen = session.end();
+    assert_eq!(screen(&seen), ["length 4", "reverses", "pair 2", "over cut 2", "Tab 2/9"]);
+    assert!(!seen.contains("\x1B[1;3") && !seen.contains("\x1B[7"), "{seen:?}");
+}
+
+#[test]
+fn where_there_is_no_screen_lines_are_read() {
+    for (name, before) in [("dumb", "TERM=dumb"), ("no-stty", "PATH=/nonexistent")] {
+        let mut session = Session::new(name, "cols 80 rows 24", before);
+        session.wait("pair 1 of 5  - cut\r\n");
+        session.press("\n", "pair 2 of 5  - cut\r\n");
+        session.press("j\n", "jumps      contour 0 vertex 0 to contour 1 vertex 0\r\n");
+        session.press("3\n", "pair 3 of 5  ~ back-step\r\n");
+        session.send("q\n");
+        assert!(!session.end().contains('\x1B'));
+    }
+}

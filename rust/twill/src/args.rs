@@ -159,30 +159,30 @@ impl Options {
         word: &'a str,
         rest: &mut impl Iterator<Item = &'a str>,
     ) -> Result<(), String> {
-        let (option, joined) = match word.split_once('=') {
+        let (option, attached) = match word.split_once('=') {
             Some((option, value)) if word.starts_with("--") => (option, Some(value)),
             _ => (word, None),
         };
-        let joins = matches!(
+        let has_formats = matches!(
             command,
             Command::Retrace | Command::Straight | Command::Order | Command::Start
         );
         let is_twice = match option {
-            "--inside" | "--outside" if joined.is_some() => {
+            "--inside" | "--outside" if attached.is_some() => {
                 return Err(format!("{option} takes no value"));
             }
             "--inside" => self.strategy.replace(StartPointStrategy::Inside).is_some(),
             "--outside" => self.strategy.replace(StartPointStrategy::Outside).is_some(),
             "--width" | "--height" => {
-                let size = size(option, value(option, joined, rest)?)?;
+                let size = size(option, value(option, attached, rest)?)?;
                 let side = if option == "--width" { &mut self.width } else { &mut self.height };
                 side.replace(size).is_some()
             }
-            "--format" if joins => {
-                self.format.replace(format(value(option, joined, rest)?)?).is_some()
+            "--format" if has_formats => {
+                self.format.replace(format(value(option, attached, rest)?)?).is_some()
             }
-            "-o" | "--output" if joins || command == Command::View => {
-                self.output.replace(value(option, joined, rest)?.into()).is_some()
+            "-o" | "--output" if has_formats || command == Command::View => {
+                self.output.replace(value(option, attached, rest)?.into()).is_some()
             }
             _ => return Err(format!("{name} has no option {option}: see `twill help {name}`")),
         };
@@ -195,10 +195,10 @@ impl Options {
 
 fn value<'a>(
     option: &str,
-    joined: Option<&'a str>,
+    attached: Option<&'a str>,
     rest: &mut impl Iterator<Item = &'a str>,
 ) -> Result<&'a str, String> {
-    match joined.or_else(|| rest.next()) {
+    match attached.or_else(|| rest.next()) {
         Some("") | None => Err(format!("{option} takes a value")),
         Some(value) => Ok(value),
     }

@@ -1,6 +1,7 @@
 //! A joined plate, and its pairs told one by one.
 
 use crate::plate::Handed;
+use crate::words;
 use twillharbor::{Mark, MarkedPath, Pair, PairKind};
 
 /// What was handed over and what the library gave. Pair i goes from path point i − 1 to path
@@ -36,9 +37,7 @@ pub struct Told {
 
 impl Joined {
     pub fn new(plate: Handed, path: MarkedPath) -> Self {
-        let lengths = plate.lengths.iter().enumerate();
-        let vertices =
-            lengths.flat_map(|(c, &length)| (0..length as usize).map(move |v| (c, v))).collect();
+        let vertices = plate.vertices().collect();
         let mut visited: Vec<u32> = Vec::with_capacity(path.marks().len());
         for mark in path.marks() {
             visited.push(match *mark {
@@ -74,6 +73,17 @@ impl Joined {
         self.grooves[number - 1]
     }
 
+    /// `start`, `cut`, `back-step` or `jump`: how the path comes to a point, which is what the
+    /// pair of that number is.
+    pub fn kind(&self, path_point: usize) -> &'static str {
+        words::kind(self.path.marks()[path_point])
+    }
+
+    /// The vertex of a path point, counted over the whole plate.
+    pub fn vertex(&self, path_point: usize) -> u32 {
+        self.visited[path_point]
+    }
+
     /// The contour of a vertex of the plate and its number within it.
     pub fn locate(&self, vertex: u32) -> (usize, usize) {
         self.vertices[vertex as usize]
@@ -88,8 +98,8 @@ impl Joined {
             number,
             pair,
             length: distances.plain,
-            from: self.locate(self.visited[number - 1]),
-            to: self.locate(self.visited[number]),
+            from: self.locate(self.vertex(number - 1)),
+            to: self.locate(self.vertex(number)),
             groove: self.groove(number),
         }
     }

@@ -32,7 +32,7 @@ fn main() -> ExitCode {
         Ok(()) => ExitCode::SUCCESS,
         Err(failure) => {
             if !failure.line.is_empty() {
-                eprintln!("twill: {}", failure.line);
+                output::report(&failure.line);
             }
             ExitCode::from(failure.status)
         }

@@ -103,7 +103,6 @@ pub fn json(value: f64) -> String {
 mod tests {
     use super::{json, parse, show};
 
-    /// The same digits as a decimal, for numbers that both notations have.
     #[test]
     fn hexadecimal_numbers_are_the_floats_that_they_name() {
         let cases = [

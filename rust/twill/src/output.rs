@@ -18,6 +18,11 @@ pub fn print(content: &str) -> Result<(), Failure> {
     }
 }
 
+/// Writes a line to the standard error. Where that fails there is no one to tell.
+pub fn report(line: &str) {
+    let _ = io::stderr().write_all(format!("twill: {line}\n").as_bytes());
+}
+
 /// Whether a name stands for the standard output.
 pub fn is_standard(path: &Path) -> bool {
     ["-", "/dev/stdout", "/dev/fd/1", "/proc/self/fd/1"].iter().any(|name| path == Path::new(name))

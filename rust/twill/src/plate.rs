@@ -94,18 +94,10 @@ pub struct Handed {
 }
 
 impl Handed {
-    /// The contour that a vertex is of and its number within it; vertices count over the whole
-    /// plate.
-    pub fn locate(&self, vertex: usize) -> Option<(usize, usize)> {
-        let mut first = 0;
-        for (contour, &length) in self.lengths.iter().enumerate() {
-            let next = first + length as usize;
-            if vertex < next {
-                return Some((contour, vertex - first));
-            }
-            first = next;
-        }
-        None
+    /// For each vertex of the plate the contour that it is of and its number within it.
+    pub fn vertices(&self) -> impl Iterator<Item = (usize, usize)> {
+        let lengths = self.lengths.iter().enumerate();
+        lengths.flat_map(|(contour, &length)| (0..length as usize).map(move |v| (contour, v)))
     }
 
     /// The contours' points, those of empty contours too.

@@ -42,7 +42,8 @@ fn off_the_plate(loaded: &Loaded, place: usize, refusal: Refusal) -> String {
     let vertex = place / 2;
     let axis = if place.is_multiple_of(2) { "x" } else { "y" };
     let position = Position::of(text, bytes[vertex]);
-    let (contour, within) = plate.locate(vertex).expect("the library names a point of the plate");
+    let named = plate.vertices().nth(vertex);
+    let (contour, within) = named.expect("the library names a point of the plate");
     let value = show(plate.points[place]);
     format!(
         "{name}:{position}: refused: {refusal}: contour {contour}, vertex {within}, {axis} = {value}; \

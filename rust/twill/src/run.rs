@@ -58,7 +58,7 @@ fn plate(request: &PlateRequest) -> Result<(), Failure> {
         Command::Check => return check(&loaded),
         Command::Step => {
             return step::step(&retrace(&loaded)?, &loaded.name)
-                .map_err(|fault| Failure::file(format!("step: {fault}")));
+                .map_err(|fault| Failure::file(format!("step: {}", output::reason(&fault))));
         }
         Command::View => return page(request, &loaded),
     };
@@ -76,10 +76,10 @@ fn load(request: &PlateRequest) -> Result<Loaded, Failure> {
         format!("{name}:{}: {}", Position::of(&text, remark.byte), remark.message)
     };
     let plate = read::read(&text).map_err(|remark| Failure::file(located(&remark)))?;
-    // They are about the file's size.
+    // Notes are about the file's size, and nothing of that holds if both sides are given.
     if request.width.is_none() || request.height.is_none() {
         for note in &plate.notes {
-            eprintln!("twill: note: {}", located(note));
+            output::report(&format!("note: {}", located(note)));
         }
     }
     let size = Size {
@@ -119,7 +119,7 @@ fn text(source: &Source) -> Result<(String, String), Failure> {
     }
 }
 
-/// The library makes its slices longer until the path fits, up to the limit.
+/// The wrapper makes the slices longer until the path fits, up to the limit.
 fn retrace(loaded: &Loaded) -> Result<Joined, Failure> {
     let Handed { points, lengths, size, strategy } = &loaded.plate;
     let path = twillharbor::retrace(points, lengths, *size, *strategy)

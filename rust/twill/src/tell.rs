@@ -19,11 +19,6 @@ use crate::number;
 use crate::plate::point;
 use twillharbor::PairKind;
 
-/// `cut`, `back-step` or `jump`.
-pub fn kind(told: &Told) -> &'static str {
-    word(told.pair.kind)
-}
-
 /// The line of a pair.
 pub fn line(joined: &Joined, told: &Told) -> String {
     let (from, to) = (point(told.pair.from), point(told.pair.to));
@@ -32,8 +27,8 @@ pub fn line(joined: &Joined, told: &Told) -> String {
         PairKind::BackStep { .. } => "reverses ",
         PairKind::Cut { .. } | PairKind::Jump { .. } => "",
     };
-    let what = what(joined, told);
-    format!("{} {} {from} -> {to} length {length} {verb}{what}", told.number, kind(told))
+    let (number, kind, what) = (told.number, joined.kind(told.number), what(joined, told));
+    format!("{number} {kind} {from} -> {to} length {length} {verb}{what}")
 }
 
 /// The line of the start; none where the path has no point.
@@ -49,7 +44,7 @@ pub fn details(joined: &Joined, told: &Told) -> Vec<(&'static str, String)> {
         PairKind::BackStep { .. } => "reverses",
         PairKind::Jump { .. } => "jumps",
     };
-    let (left, reached) = (plate_vertex(joined, told.from), plate_vertex(joined, told.to));
+    let (left, reached) = (joined.vertex(told.number - 1), joined.vertex(told.number));
     let (from, to) = (place(told.from), place(told.to));
     vec![
         ("from", point(told.pair.from)),
@@ -74,15 +69,6 @@ pub fn start_details(joined: &Joined) -> Vec<(&'static str, String)> {
     ]
 }
 
-/// The same of a kind.
-pub const fn word(kind: PairKind) -> &'static str {
-    match kind {
-        PairKind::Cut { .. } => "cut",
-        PairKind::BackStep { .. } => "back-step",
-        PairKind::Jump { .. } => "jump",
-    }
-}
-
 /// What is cut, gone back over, or jumped between.
 fn what(joined: &Joined, told: &Told) -> String {
     match told.pair.kind {
@@ -91,9 +77,10 @@ fn what(joined: &Joined, told: &Told) -> String {
         }
         PairKind::Cut { .. } => named(joined, told.pair.kind),
         PairKind::BackStep { .. } => {
-            let groove = joined.pair(told.groove).kind;
+            let (groove, kind) = (told.groove, joined.kind(told.groove));
             let reversed = named(joined, told.pair.kind);
-            format!("{reversed} over {} {} {}", word(groove), told.groove, named(joined, groove))
+            let first = named(joined, joined.pair(groove).kind);
+            format!("{reversed} over {kind} {groove} {first}")
         }
         PairKind::Jump { .. } => format!("{} to {}", place(told.from), place(told.to)),
     }
@@ -113,11 +100,6 @@ fn named(joined: &Joined, kind: PairKind) -> String {
 
 fn place((contour, vertex): (usize, usize)) -> String {
     format!("contour {contour} vertex {vertex}")
-}
-
-/// A vertex's number over the whole plate.
-fn plate_vertex(joined: &Joined, (contour, vertex): (usize, usize)) -> usize {
-    joined.plate.lengths[..contour].iter().map(|&length| length as usize).sum::<usize>() + vertex
 }
 
 fn mark(joined: &Joined, path_point: usize) -> String {

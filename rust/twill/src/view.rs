@@ -113,17 +113,9 @@ fn data(joined: &Joined, name: &str) -> String {
 #[cfg(test)]
 mod tests {
     use super::{FIRST_LINE, page};
-    use crate::joined::Joined;
     use crate::number;
-    use crate::plate::Handed;
-    use twillharbor::{Mark, Size, StartPointStrategy, retrace};
-
-    fn joined(points: &[f64], lengths: &[u32]) -> Joined {
-        let (size, strategy) = (Size { width: 8, height: 2 }, StartPointStrategy::Inside);
-        let path = retrace(points, lengths, size, strategy).unwrap();
-        let plate = Handed { points: points.into(), lengths: lengths.into(), size, strategy };
-        Joined::new(plate, path)
-    }
+    use crate::tell::tests::joined;
+    use twillharbor::Mark;
 
     /// The value of a member of the page's data block, as it is written there.
     fn member<'a>(page: &'a str, key: &str) -> &'a str {
@@ -145,9 +137,9 @@ mod tests {
 
     #[test]
     fn the_data_block_holds_what_the_library_gave_bit_for_bit() {
-        let third = 1.0 / 3.0;
-        let points = [0.0, -0.0, 4.0, third, 8.0, 5e-324, -0.0, -1e-7, 999_999.999_999_999_9, 1.0];
-        let joined = joined(&points, &[3, 0, 1, 1]);
+        let bent = [(0.0, -0.0), (4.0, 1.0 / 3.0), (8.0, 5e-324)];
+        let (near, far) = ([(-0.0, -1e-7)], [(999_999.999_999_999_9, 1.0)]);
+        let joined = joined(&[&bent, &[], &near, &far], 8, 2);
         let page = page(&joined, "plate.txt");
         let path = joined.path.points().iter().flat_map(|p| [p.x.to_bits(), p.y.to_bits()]);
         assert_eq!(bits(&page, "path"), path.collect::<Vec<_>>());
@@ -167,7 +159,7 @@ mod tests {
 
     #[test]
     fn a_name_cannot_leave_its_place() {
-        let joined = joined(&[0.0, 0.0], &[1]);
+        let joined = joined(&[&[(0.0, 0.0)]], 0, 0);
         let name = "</script><b>&\"'\\{{data}}\u{2028}\n\u{1}";
         let hostile = page(&joined, name);
         let escaped = concat!(
@@ -185,18 +177,18 @@ mod tests {
 
     #[test]
     fn an_empty_plate_and_a_single_point_have_pages() {
-        let empty = page(&joined(&[], &[0, 0]), "empty");
+        let empty = page(&joined(&[&[], &[]], 0, 0), "empty");
         assert!(empty.starts_with(FIRST_LINE));
         assert_eq!((member(&empty, "path"), member(&empty, "marks")), ("[]", "[]"));
         assert_eq!((member(&empty, "points"), member(&empty, "jumps")), ("0", "0"));
-        let single = page(&joined(&[0.5, -0.0], &[1]), "single");
+        let single = page(&joined(&[&[(0.5, -0.0)]], 0, 0), "single");
         assert_eq!((member(&single, "path"), member(&single, "marks")), ("[0.5,-0.0]", "[0,0]"));
         assert_eq!(member(&single, "lengths"), "[]");
     }
 
     #[test]
     fn the_page_asks_for_nothing_from_outside() {
-        let page = page(&joined(&[0.0, 0.0, 1.0, 1.0], &[2]), "a");
+        let page = page(&joined(&[&[(0.0, 0.0), (1.0, 1.0)]], 0, 0), "a");
         assert!(page.contains("content=\"default-src 'none'; "));
         for reach in ["http:", "https:", "src=", "@import", "fetch(", "XMLHttpRequest"] {
             assert!(!page.contains(reach), "{reach}");

@@ -1,6 +1,16 @@
-//! Numbers in sentences.
+//! Words for kinds, and numbers in sentences.
 
-use twillharbor::Counts;
+use twillharbor::{Counts, Mark};
+
+/// The word for a mark's kind.
+pub const fn kind(mark: Mark) -> &'static str {
+    match mark {
+        Mark::Start { .. } => "start",
+        Mark::Cut { .. } => "cut",
+        Mark::BackStep { .. } => "back-step",
+        Mark::Jump { .. } => "jump",
+    }
+}
 
 /// `1 jump`, `2 jumps`.
 pub fn count(number: usize, what: &str) -> String {

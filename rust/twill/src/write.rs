@@ -6,79 +6,79 @@ use crate::args::Format;
 use crate::joined::Joined;
 use crate::number::{json, show};
 use crate::plate::{self, Handed, word};
+use crate::words;
 use std::fmt::Write;
 use twillharbor::{Entry, Mark, Point, Start};
 
 /// The path with its marks.
 pub fn retrace(joined: &Joined, format: Format) -> String {
-    let counts = joined.path.counts();
-    let (points, marks) = (joined.path.points(), joined.path.marks());
     match format {
-        Format::Text => {
-            let mut text =
-                format!("# retrace, {}: {}\n", joined.plate.terms(), crate::words::counts(counts));
-            for (p, mark) in points.iter().zip(marks) {
-                let [_, reference] = mark.numbers();
-                lines(
-                    &mut text,
-                    format_args!("{} {} {} {reference}", show(p.x), show(p.y), kind(*mark)),
-                );
-            }
-            text
-        }
-        Format::Json => {
-            let marks = list(marks.iter().map(|mark| {
-                let [kind, reference] = mark.numbers();
-                format!("[{kind},{reference}]")
-            }));
-            format!(
-                "{{{},\n\"points\":{},\"cuts\":{},\"back_steps\":{},\"jumps\":{},\n\"path\":{},\n\"marks\":{marks}}}\n",
-                head(&joined.plate),
-                counts.points,
-                counts.cuts,
-                counts.back_steps,
-                counts.jumps,
-                pairs(points)
-            )
-        }
+        Format::Text => retrace_text(joined),
+        Format::Json => retrace_json(joined),
         Format::Svg => picture::retrace(joined),
-        Format::PlateMarks => {
-            let marks: Vec<String> = marks
-                .iter()
-                .map(|mark| {
-                    let [kind, reference] = mark.numbers();
-                    format!("{kind} {reference}")
-                })
-                .collect();
-            match points {
-                [] => format!("{}: empty path\n", row(&joined.plate)),
-                _ => format!(
-                    "{}: {}; marks {}\n",
-                    row(&joined.plate),
-                    bracketed(points),
-                    marks.join(", ")
-                ),
-            }
-        }
+        Format::PlateMarks => retrace_row(joined),
     }
+}
+
+fn retrace_text(joined: &Joined) -> String {
+    let counts = words::counts(joined.path.counts());
+    let mut text = format!("# retrace, {}: {counts}\n", joined.plate.terms());
+    for (p, mark) in joined.path.points().iter().zip(joined.path.marks()) {
+        let [_, reference] = mark.numbers();
+        let kind = words::kind(*mark);
+        line(&mut text, format_args!("{} {} {kind} {reference}", show(p.x), show(p.y)));
+    }
+    text
+}
+
+fn retrace_json(joined: &Joined) -> String {
+    let counts = joined.path.counts();
+    let marks = list(joined.path.marks().iter().map(|mark| {
+        let [kind, reference] = mark.numbers();
+        format!("[{kind},{reference}]")
+    }));
+    format!(
+        "{{{},\n\"points\":{},\"cuts\":{},\"back_steps\":{},\"jumps\":{},\n\"path\":{},\n\"marks\":{marks}}}\n",
+        head(&joined.plate),
+        counts.points,
+        counts.cuts,
+        counts.back_steps,
+        counts.jumps,
+        coordinates(joined.path.points())
+    )
+}
+
+fn retrace_row(joined: &Joined) -> String {
+    let (plate, points) = (row(&joined.plate), joined.path.points());
+    if points.is_empty() {
+        return format!("{plate}: empty path\n");
+    }
+    let mark = |mark: &Mark| {
+        let [kind, reference] = mark.numbers();
+        format!("{kind} {reference}")
+    };
+    let marks: Vec<String> = joined.path.marks().iter().map(mark).collect();
+    format!("{plate}: {}; marks {}\n", bracketed(points), marks.join(", "))
 }
 
 /// The ordered contours' points; `entries` is the order.
 pub fn straight(plate: &Handed, entries: &[Entry], path: &[Point], format: Format) -> String {
     match format {
         Format::Text => {
-            let mut text = format!(
-                "# straight, {}: {}\n",
-                plate.terms(),
-                crate::words::count(path.len(), "point")
-            );
+            let mut text =
+                format!("# straight, {}: {}\n", plate.terms(), words::count(path.len(), "point"));
             for p in path {
-                lines(&mut text, format_args!("{} {}", show(p.x), show(p.y)));
+                line(&mut text, format_args!("{} {}", show(p.x), show(p.y)));
             }
             text
         }
         Format::Json => {
-            format!("{{{},\n\"points\":{},\n\"path\":{}}}\n", head(plate), path.len(), pairs(path))
+            format!(
+                "{{{},\n\"points\":{},\n\"path\":{}}}\n",
+                head(plate),
+                path.len(),
+                coordinates(path)
+            )
         }
         Format::Svg => picture::straight(plate, entries, path),
         Format::PlateMarks if path.is_empty() => format!("{}: empty path\n", row(plate)),
@@ -90,13 +90,10 @@ pub fn straight(plate: &Handed, entries: &[Entry], path: &[Point], format: Forma
 pub fn order(plate: &Handed, entries: &[Entry], format: Format) -> String {
     match format {
         Format::Text => {
-            let mut text = format!(
-                "# order, {}: {}\n",
-                plate.terms(),
-                crate::words::count(entries.len(), "contour")
-            );
+            let mut text =
+                format!("# order, {}: {}\n", plate.terms(), words::count(entries.len(), "contour"));
             for entry in entries {
-                lines(&mut text, format_args!("{} {}", entry.contour, sense(entry.reversed)));
+                line(&mut text, format_args!("{} {}", entry.contour, sense(entry.reversed)));
             }
             text
         }
@@ -107,6 +104,7 @@ pub fn order(plate: &Handed, entries: &[Entry], format: Format) -> String {
             format!("{{{},\n\"order\":{entries}}}\n", head(plate))
         }
         Format::Svg => picture::order(plate, entries),
+        Format::PlateMarks if entries.is_empty() => format!("{}: empty order\n", row(plate)),
         Format::PlateMarks => {
             let entries: Vec<String> = entries
                 .iter()
@@ -136,21 +134,12 @@ pub fn start(plate: &Handed, start: Start, format: Format) -> String {
     }
 }
 
-const fn kind(mark: Mark) -> &'static str {
-    match mark {
-        Mark::Start { .. } => "start",
-        Mark::Cut { .. } => "cut",
-        Mark::BackStep { .. } => "back-step",
-        Mark::Jump { .. } => "jump",
-    }
-}
-
 const fn sense(reversed: bool) -> &'static str {
     if reversed { "reversed" } else { "forward" }
 }
 
-/// A line more.
-fn lines(text: &mut String, line: std::fmt::Arguments<'_>) {
+/// Adds a line to a text.
+fn line(text: &mut String, line: std::fmt::Arguments<'_>) {
     writeln!(text, "{line}").expect("a string takes all that is written");
 }
 
@@ -171,7 +160,7 @@ fn list(elements: impl Iterator<Item = String>) -> String {
     format!("[{}]", elements.join(",\n"))
 }
 
-fn pairs(points: &[Point]) -> String {
+fn coordinates(points: &[Point]) -> String {
     list(points.iter().map(|p| format!("[{},{}]", json(p.x), json(p.y))))
 }
 

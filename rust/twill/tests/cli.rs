@@ -2,9 +2,9 @@
 
 mod common;
 
-use common::Folder;
+use common::{Folder, Ran};
 use std::fmt::Write as _;
-use std::fs;
+use std::fs::{self, File};
 use std::io::{BufRead, BufReader, Read};
 use std::path::Path;
 use std::process::{Command, Stdio};
@@ -74,6 +74,10 @@ fn start_order_and_straight() {
     assert_eq!(
         folder.twill("straight c.txt").done(),
         "# straight, 0 by 0, inside: 4 points\n0 0\n4 0\n4 1\n8 1\n"
+    );
+    assert_eq!(
+        folder.twill_with("order - --format plate-marks", "empty").done(),
+        "empty, 0 by 0, Outside: empty order\n"
     );
     assert_eq!(
         folder.twill("straight c.txt --format plate-marks").done(),
@@ -368,6 +372,26 @@ fn a_reader_that_has_enough_ends_the_tool_quietly() {
         child.stderr.take().unwrap().read_to_string(&mut err).unwrap();
         assert_eq!((child.wait().unwrap().code(), err.as_str()), (Some(0), ""));
     }
+}
+
+#[test]
+fn a_full_device_is_told_and_lines_that_cannot_be_told_stop_nothing() {
+    let folder = Folder::new("full-device");
+    folder.put("a.txt", "0 0\n1 1\n");
+    folder.put("noted.svg", "<svg viewBox='0 0 1.5 2'><line x2='3'/></svg>");
+    let full = || File::options().write(true).open("/dev/full").unwrap();
+    let run = |line: &str, out: Stdio, err: Stdio| {
+        let mut command = Command::new(env!("CARGO_BIN_EXE_twill"));
+        command.args(line.split(' ')).current_dir(folder.path("")).stdin(Stdio::null());
+        Ran::of(command.stdout(out).stderr(err).output().unwrap())
+    };
+    for (command, what) in [("retrace", "standard output"), ("step", "step")] {
+        let ran = run(&format!("{command} a.txt"), full().into(), Stdio::piped());
+        assert_eq!(ran.failed(3), format!("{what}: No space left on device"));
+    }
+    assert_eq!(run("check none.txt", Stdio::piped(), full().into()).status, Some(3));
+    let noted = run("straight noted.svg", Stdio::piped(), full().into()).done();
+    assert_eq!(noted, "# straight, 2 by 2, outside: 2 points\n3 0\n0 0\n");
 }
 
 /// The arrays of the page's data are those of the JSON result.

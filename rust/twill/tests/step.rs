@@ -1,9 +1,11 @@
 //! `twill step` through a pipe, and with keys in a terminal. The terminal is the one that `script`
 //! of util-linux makes; each key waits for what the one before has to show.
 
-use std::io::{BufRead, BufReader, Read, Write};
-use std::path::PathBuf;
-use std::process::{Child, ChildStdin, Command, Output, Stdio};
+mod common;
+
+use common::Folder;
+use std::io::{Read, Write};
+use std::process::{Child, ChildStdin, Command, Stdio};
 use std::sync::mpsc::{self, Receiver};
 use std::thread;
 use std::time::Duration;
@@ -20,49 +22,21 @@ const LINES_E: &str = "\
 5 jump (0,0) -> (0,1) length 1 contour 0 vertex 0 to contour 1 vertex 0
 ";
 
-/// The path of a file with this text; it is there whole even where tests run twice at once.
-fn plate(name: &str, text: &str) -> PathBuf {
-    let folder = PathBuf::from(env!("CARGO_TARGET_TMPDIR"));
-    let (path, new) = (folder.join(name), folder.join(format!("{name}-{}", std::process::id())));
-    std::fs::write(&new, text).and_then(|()| std::fs::rename(&new, &path)).unwrap();
-    path
-}
-
-fn piped(name: &str, text: &str) -> Output {
-    let mut command = Command::new(TWILL);
-    command.arg("step").arg(plate(name, text)).stdin(Stdio::null()).output().unwrap()
-}
-
 #[test]
 fn a_pipe_gets_a_line_a_pair() {
-    for (name, text, lines) in [
-        ("piped-e", PLATE_E, LINES_E),
-        ("piped-one", "size 0 0\nstart inside\n1 2\n", "0 start (1,2) on contour 0 vertex 0\n"),
-        ("piped-none", "size 0 0\nstart inside\n", ""),
+    let folder = Folder::new("piped");
+    for (plate, lines) in [
+        (PLATE_E, LINES_E),
+        ("start inside\n1 2\n", "0 start (1,2) on contour 0 vertex 0\n"),
+        ("start inside\n", ""),
     ] {
-        let output = piped(name, text);
-        assert_eq!(String::from_utf8_lossy(&output.stdout), lines);
-        assert!(output.status.success() && output.stderr.is_empty(), "{output:?}");
+        assert_eq!(folder.twill_with("step -", plate).done(), lines);
     }
 }
 
-#[test]
-fn a_pipe_that_is_closed_early_is_no_error() {
-    // Far more lines than a pipe holds.
-    let points: String = (0..20_000).map(|n| format!("{n} {}\n", n % 7)).collect();
-    let path = plate("closed", &format!("size 0 0\nstart inside\n{points}"));
-    let mut command = Command::new(TWILL);
-    command.arg("step").arg(path).stdin(Stdio::null());
-    let mut child = command.stdout(Stdio::piped()).stderr(Stdio::piped()).spawn().unwrap();
-    let mut line = String::new();
-    BufReader::with_capacity(64, child.stdout.take().unwrap()).read_line(&mut line).unwrap();
-    assert!(line.starts_with("0 start (0,0) on contour 0 "), "{line}");
-    let output = child.wait_with_output().unwrap();
-    assert!(output.status.success() && output.stderr.is_empty(), "{output:?}");
-}
-
 /// A command in a terminal.
-struct Session {
+struct Terminal {
+    _folder: Folder,
     child: Child,
     keys: Option<ChildStdin>,
     parts: Receiver<Vec<u8>>,
@@ -71,12 +45,13 @@ struct Session {
     read: usize,
 }
 
-impl Session {
+impl Terminal {
     /// Steps through plate E in a terminal of this size, with words before the command, such as
     /// settings of the environment.
     fn new(name: &str, size: &str, before: &str) -> Self {
-        let file = plate(name, PLATE_E);
-        let step = format!("{before} '{TWILL}' step '{}'", file.display());
+        let folder = Folder::new(name);
+        folder.put("e.txt", PLATE_E);
+        let step = format!("{before} '{TWILL}' step '{}'", folder.path("e.txt").display());
         let settings = "echo settings $(stty -g).";
         let shell = format!("stty {size}; {settings}; {step}; echo status $?; {settings}");
         let mut command = Command::new("script");
@@ -93,7 +68,7 @@ impl Session {
                 }
             }
         });
-        Self { child, keys, parts, seen: String::new(), read: 0 }
+        Self { _folder: folder, child, keys, parts, seen: String::new(), read: 0 }
     }
 
     /// Waits for a text after those that were waited for before.
@@ -152,8 +127,8 @@ fn screen(seen: &str) -> Vec<String> {
 
 #[test]
 fn keys_step_through_the_path() {
-    let mut session = Session::new("keys", "cols 80 rows 24", "");
-    session.wait("pair 1 of 5  - cut");
+    let mut terminal = Terminal::new("keys", "cols 80 rows 24", "");
+    terminal.wait("pair 1 of 5  - cut");
     for (keys, heading) in [
         ("\x1B[C", "pair 2 of 5  - cut"),
         ("n", "pair 3 of 5  ~ back-step"),
@@ -169,10 +144,10 @@ fn keys_step_through_the_path() {
         ("?", "j next, J previous"),
         ("x\x1AB", "pair 4 of 5  ~ back-step"),
     ] {
-        session.press(keys, heading);
+        terminal.press(keys, heading);
     }
-    session.send("q");
-    let rows = screen(&session.end());
+    terminal.send("q");
+    let rows = screen(&terminal.end());
     assert_eq!(rows.len(), 24);
     assert_eq!(rows[5], "reverses   pair 1 over cut 1 contour 0 segment 0");
     let listed = [
@@ -186,13 +161,13 @@ fn keys_step_through_the_path() {
 #[test]
 fn each_way_to_leave_restores_the_terminal() {
     for (name, keys) in [("ctrl-c", "\x03"), ("ctrl-d", "\x04"), ("escape", "\x1B"), ("end", "")] {
-        let mut session = Session::new(name, "cols 40 rows 12", "");
-        session.wait("pair 1 of 5");
+        let mut terminal = Terminal::new(name, "cols 40 rows 12", "");
+        terminal.wait("pair 1 of 5");
         match keys {
-            "" => drop(session.keys.take()),
-            keys => session.send(keys),
+            "" => drop(terminal.keys.take()),
+            keys => terminal.send(keys),
         }
-        let seen = session.end();
+        let seen = terminal.end();
         assert!(
             seen.contains("\x1B[?1049h") && seen.contains("\x1B[?25h\x1B[?1049l"),
             "{name}: {seen:?}"
@@ -202,12 +177,12 @@ fn each_way_to_leave_restores_the_terminal() {
 
 #[test]
 fn a_narrow_terminal_is_not_overrun() {
-    let mut session = Session::new("narrow", "cols 10 rows 5", "NO_COLOR=1");
-    session.wait("1 - cut");
-    session.press("3\n", "back-step");
-    session.press("\t", "over cut 2");
-    session.send("q");
-    let seen = session.end();
+    let mut terminal = Terminal::new("narrow", "cols 10 rows 5", "NO_COLOR=1");
+    terminal.wait("1 - cut");
+    terminal.press("3\n", "back-step");
+    terminal.press("\t", "over cut 2");
+    terminal.send("q");
+    let seen = terminal.end();
     assert_eq!(screen(&seen), ["length 4", "reverses", "pair 2", "over cut 2", "Tab 2/9"]);
     assert!(!seen.contains("\x1B[1;3") && !seen.contains("\x1B[7"), "{seen:?}");
 }
@@ -215,12 +190,12 @@ fn a_narrow_terminal_is_not_overrun() {
 #[test]
 fn where_there_is_no_screen_lines_are_read() {
     for (name, before) in [("dumb", "TERM=dumb"), ("no-stty", "PATH=/nonexistent")] {
-        let mut session = Session::new(name, "cols 80 rows 24", before);
-        session.wait("pair 1 of 5  - cut\r\n");
-        session.press("\n", "pair 2 of 5  - cut\r\n");
-        session.press("j\n", "jumps      contour 0 vertex 0 to contour 1 vertex 0\r\n");
-        session.press("3\n", "pair 3 of 5  ~ back-step\r\n");
-        session.send("q\n");
-        assert!(!session.end().contains('\x1B'));
+        let mut terminal = Terminal::new(name, "cols 80 rows 24", before);
+        terminal.wait("pair 1 of 5  - cut\r\n");
+        terminal.press("\n", "pair 2 of 5  - cut\r\n");
+        terminal.press("j\n", "jumps      contour 0 vertex 0 to contour 1 vertex 0\r\n");
+        terminal.press("3\n", "pair 3 of 5  ~ back-step\r\n");
+        terminal.send("q\n");
+        assert!(!terminal.end().contains('\x1B'));
     }
 }

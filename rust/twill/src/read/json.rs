@@ -254,9 +254,10 @@ impl<'a> Reader<'a> {
 
     fn fault(&mut self, message: &str) -> Remark {
         let word = self.word();
-        let found = match (word, self.peek()) {
+        let rest = &self.text[self.at..];
+        let found = match (word, rest.chars().next()) {
             (_, None) => "the end of the file".into(),
-            ("", Some(sign)) => format!("`{}`", char::from(sign)),
+            ("", Some(sign)) => format!("`{}`", excerpt(&rest[..sign.len_utf8()])),
             (word, _) => format!("`{}`", excerpt(word)),
         };
         Remark::new(self.at, format!("{message}, not {found}"))
@@ -332,6 +333,8 @@ mod tests {
             ("[[[0,\"1k\"]]]", 5, "`1k` is no number"),
             ("[[[0,null]]]", 5, "a number expected, not `null`"),
             ("[[0,0]]", 2, "a point, [x, y] expected, not `0`"),
+            ("[[[0,\u{a0}1]]]", 5, "a number expected, not `\u{a0}`"),
+            ("[[[0\u{b},1]]]", 4, "`,` or `]` expected, not `\\u{b}`"),
             ("[[{\"x\":1}]]", 2, "a point has two numbers, x and y"),
             ("[[{\"x\":1,\"z\":1}]]", 9, "`z` is neither x nor y"),
             ("[] []", 3, "nothing more expected after the contours, not `[`"),

@@ -44,7 +44,8 @@ const NAMESPACE: &str = "http://www.w3.org/2000/svg";
 
 pub fn read(text: &str) -> Result<Plate, Remark> {
     let mut tokens = Tokens::new(text);
-    let mut reader = Reader { plate: Plate::default(), open: Vec::new(), passed_over: 0 };
+    let mut reader =
+        Reader { plate: Plate::default(), open: Vec::new(), passed_over: 0, sheets: 0 };
     while let Some(event) = tokens.event()? {
         match event {
             Event::Open(element) => reader.open(&element)?,
@@ -67,10 +68,13 @@ struct Reader {
     open: Vec<Open>,
     /// How many elements are open from the one on that is passed over.
     passed_over: usize,
+    /// How many of the open elements are stylesheets.
+    sheets: usize,
 }
 
 impl Reader {
     fn open(&mut self, element: &Element) -> Result<(), Remark> {
+        self.sheets += usize::from(is_sheet(element.name));
         if self.passed_over > 0 {
             self.passed_over += 1;
             return Ok(());
@@ -108,9 +112,13 @@ impl Reader {
     }
 
     fn close(&mut self, content: Content) -> Result<(), Remark> {
-        // Wherever it stands, it holds for all of the picture.
-        if matches!(content.name, "style" | "svg:style") {
-            style::check_sheet(content)?;
+        // Wherever it stands, it holds for all of the picture. One within another is looked at
+        // as a part of that.
+        if is_sheet(content.name) {
+            self.sheets -= 1;
+            if self.sheets == 0 {
+                style::check_sheet(content)?;
+            }
         }
         if self.passed_over > 0 {
             self.passed_over -= 1;
@@ -132,6 +140,10 @@ impl Reader {
         }
         size::read(element, &mut self.plate)
     }
+}
+
+fn is_sheet(name: &str) -> bool {
+    matches!(name, "style" | "svg:style")
 }
 
 /// `<path id="leaf">`, to name an element in a remark.
@@ -156,9 +168,10 @@ fn check_prefixes(element: &Element) -> Result<(), Remark> {
     Ok(())
 }
 
-/// A nested `svg` is read as a group, so it must not be more than that.
+/// A nested `svg` is read as a group, so it must not move, scale or clip what is in it.
 fn check_nested(element: &Element, name: &str) -> Result<(), Remark> {
-    let placing = element.attributes.iter().find(|a| matches!(a.name, "x" | "y" | "viewBox"));
+    let is_placing = |name| matches!(name, "x" | "y" | "width" | "height" | "viewBox");
+    let placing = element.attributes.iter().find(|attribute| is_placing(attribute.name));
     match placing {
         Some(placing) if name == "svg" => {
             let message = format!(

@@ -56,12 +56,12 @@ impl<'a> Reader<'a> {
         }
     }
 
-    /// A contour has ended, and another follows.
+    /// A contour has ended, and another follows, perhaps on a further line.
     fn bar(&mut self) -> Result<(), Remark> {
         self.apart = true;
         self.at += 1;
         self.skip_blanks();
-        match self.peek() {
+        match self.text[self.at..].trim_start().chars().next() {
             Some('|') | None => Err(self.expected("a contour")),
             Some(_) => Ok(()),
         }
@@ -260,7 +260,7 @@ mod tests {
         assert_eq!((plate.width, plate.height), (Some(8), Some(2)));
         assert_eq!(plate.strategy, Some(StartPointStrategy::Inside));
         assert_eq!(plate.lengths, [0, 0, 2, 0]);
-        assert_eq!(read("empty | (1,2)(3,4) | empty | 5 6").unwrap().lengths, [0, 2, 0, 1]);
+        assert_eq!(read("empty | (1,2)(3,4) | empty |\n\n5 6").unwrap().lengths, [0, 2, 0, 1]);
         assert_eq!(read("").unwrap(), Plate::default());
         assert_eq!(read("\n# nothing\n").unwrap(), Plate::default());
     }
@@ -296,6 +296,7 @@ mod tests {
             ("| 1 2", 0, "a number as x expected, not `|`"),
             ("(1,2) | | (3,4)", 8, "a contour expected, not `|`"),
             ("(1,2) |", 7, "a contour expected, not the end of the file"),
+            ("(1,2) |\n\n", 7, "a contour expected, not the end of the line"),
             ("1 2\nsizes 3 4", 4, "a number as x expected, not `sizes`"),
             (
                 "size 3",

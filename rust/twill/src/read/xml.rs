@@ -74,8 +74,6 @@ pub struct Tokens<'a> {
     has_root: bool,
     /// The element that was last given, if it closes itself.
     closes: Option<&'a str>,
-    /// The names of the attributes of one tag, kept here for its memory.
-    names: HashSet<&'a str>,
 }
 
 impl<'a> Tokens<'a> {
@@ -87,7 +85,6 @@ impl<'a> Tokens<'a> {
             has_doctype: false,
             has_root: false,
             closes: None,
-            names: HashSet::new(),
         }
     }
 
@@ -228,8 +225,8 @@ impl<'a> Tokens<'a> {
             return Err(Remark::new(byte, message));
         }
         self.has_root = true;
-        self.names.clear();
         let mut attributes = Vec::new();
+        let mut names = HashSet::new();
         loop {
             let is_apart = self.skip_blanks();
             match self.peek() {
@@ -247,17 +244,18 @@ impl<'a> Tokens<'a> {
                     self.closes = Some(name);
                     break;
                 }
-                Some(_) if is_apart => attributes.push(self.attribute()?),
+                Some(_) if is_apart => attributes.push(self.attribute(&mut names)?),
                 Some(_) => return Err(self.unexpected("a blank, > or />")),
             }
         }
         Ok(Event::Open(Element { name, byte, attributes }))
     }
 
-    fn attribute(&mut self) -> Result<Attribute<'a>, Remark> {
+    /// An attribute of a tag that has those of these names already.
+    fn attribute(&mut self, names: &mut HashSet<&'a str>) -> Result<Attribute<'a>, Remark> {
         let byte = self.at;
         let name = self.name().ok_or_else(|| self.unexpected("an attribute, > or />"))?;
-        if !self.names.insert(name) {
+        if !names.insert(name) {
             let message = format!("the attribute {} is given twice", excerpt(name));
             return Err(Remark::new(byte, message));
         }

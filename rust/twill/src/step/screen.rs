@@ -78,7 +78,7 @@ pub fn help() -> Vec<Item> {
 /// The current pair's number and kind, as long as there is room for.
 pub fn heading(state: &State, columns: usize) -> String {
     let (number, count) = (state.current, state.joined.count());
-    let kind = kind(state, number);
+    let kind = state.joined.kind(number);
     let sign = sign(kind);
     let noun = if number == 0 { "" } else { "pair " };
     fitting(
@@ -212,7 +212,7 @@ fn neighbour(state: &State, number: usize, columns: usize) -> Row {
         0 => tell::start_line(state.joined).unwrap_or_default(),
         _ => tell::line(state.joined, &state.joined.tell(number)),
     };
-    let kind = kind(state, number);
+    let kind = state.joined.kind(number);
     let rest = line.splitn(3, ' ').nth(2).unwrap_or_default();
     let digits = state.joined.count().to_string().len();
     let padding = if columns >= 60 { "back-step".len() } else { 0 };
@@ -221,13 +221,6 @@ fn neighbour(state: &State, number: usize, columns: usize) -> Row {
     let colour = colour(state, number);
     let look = if is_current { format!("7;{colour}") } else { colour.to_owned() };
     Row { text: cut(&text, columns), look }
-}
-
-fn kind(state: &State, number: usize) -> &'static str {
-    match number {
-        0 => "start",
-        _ => tell::word(state.joined.pair(number).kind),
-    }
 }
 
 /// A sign for each kind, so that the list is read at a glance without colours too.
@@ -241,7 +234,7 @@ fn sign(kind: &str) -> char {
 }
 
 fn colour(state: &State, number: usize) -> &'static str {
-    match kind(state, number) {
+    match state.joined.kind(number) {
         "cut" => "32",
         "back-step" => "33",
         "jump" => "35",
@@ -417,7 +410,7 @@ mod tests {
                 assert!(state.press(key).is_continue());
             }
             for (rows, columns) in
-                (1..=60).flat_map(|rows| (1..=200).map(move |columns| (rows, columns)))
+                (1..=30).flat_map(|rows| (1..=90).map(move |columns| (rows, columns)))
             {
                 state.page = rows + columns;
                 let frame = frame(&state, rows, columns);

@@ -2,7 +2,6 @@
 
 use super::keys::Key;
 use crate::joined::Joined;
-use crate::tell;
 use std::ops::ControlFlow;
 use twillharbor::{Counts, PairKind};
 
@@ -131,7 +130,7 @@ impl<'a> State<'a> {
 
     fn next(&mut self, kind: &str) {
         let mut later = self.current + 1..=self.joined.count();
-        match later.find(|&number| self.is(number, kind)) {
+        match later.find(|&number| self.joined.kind(number) == kind) {
             Some(number) => self.current = number,
             None => self.say(format!("No {kind} after this.")),
         }
@@ -139,14 +138,10 @@ impl<'a> State<'a> {
 
     fn previous(&mut self, kind: &str) {
         let mut earlier = (1..self.current).rev();
-        match earlier.find(|&number| self.is(number, kind)) {
+        match earlier.find(|&number| self.joined.kind(number) == kind) {
             Some(number) => self.current = number,
             None => self.say(format!("No {kind} before this.")),
         }
-    }
-
-    fn is(&self, number: usize, kind: &str) -> bool {
-        tell::word(self.joined.pair(number).kind) == kind
     }
 
     fn say(&mut self, message: String) {

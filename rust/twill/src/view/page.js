@@ -185,7 +185,7 @@ function showPair() {
   showControls(pair);
   keepHeight();
   later(() => {
-    element("spoken").textContent = `Pair ${grouped(current)}, ${pair.kind}, ${first}, from `
+    element("spoken").textContent = `Pair ${grouped(pair.number)}, ${pair.kind}, ${first}, from `
       + `${pointText(pair.from)} to ${pointText(pair.to)}, length ${plain(pair.length)}`;
     keepAddress();
   });

@@ -14,6 +14,16 @@ const BACK_STEP: &str = "#e69f00";
 const JUMP: &str = "#c1440e";
 const START: &str = "#00785a";
 
+/// How the lines of one kind are drawn.
+struct Style<'a> {
+    class: &'a str,
+    colour: &'a str,
+    /// In units.
+    width: f64,
+    /// Further attributes.
+    more: &'a str,
+}
+
 /// The part of the plane that is drawn.
 struct Frame {
     left: f64,
@@ -65,11 +75,12 @@ impl Frame {
     }
 
     fn cuts(&self, data: &str) -> String {
-        self.lines("cuts", data, CUT, 1.0, "")
+        self.lines(data, Style { class: "cuts", colour: CUT, width: 1.0, more: "" })
     }
 
     fn back_steps(&self, data: &str) -> String {
-        self.lines("back-steps", data, BACK_STEP, 3.6, " stroke-opacity=\"0.5\"")
+        let more = " stroke-opacity=\"0.5\"";
+        self.lines(data, Style { class: "back-steps", colour: BACK_STEP, width: 3.6, more })
     }
 
     /// Each jump is a dashed arrow, and one of length zero a dot.
@@ -87,20 +98,21 @@ impl Frame {
             .collect();
         let dashes =
             format!(" stroke-dasharray=\"{} {}\"", show(3.0 * self.unit), show(2.4 * self.unit));
-        self.group("jumps", JUMP, 1.0, &dashes, &drawn)
+        self.group(&drawn, Style { class: "jumps", colour: JUMP, width: 1.0, more: &dashes })
     }
 
     /// Lines of one style; without data there are none.
-    fn lines(&self, class: &str, data: &str, colour: &str, width: f64, more: &str) -> String {
+    fn lines(&self, data: &str, style: Style) -> String {
         let drawn = if data.is_empty() { String::new() } else { format!("<path d=\"{data}\"/>\n") };
-        self.group(class, colour, width, more, &drawn)
+        self.group(&drawn, style)
     }
 
-    fn group(&self, class: &str, colour: &str, width: f64, more: &str, drawn: &str) -> String {
+    fn group(&self, drawn: &str, style: Style) -> String {
         if drawn.is_empty() {
             return String::new();
         }
-        let width = show(width * self.unit);
+        let Style { class, colour, more, .. } = style;
+        let width = show(style.width * self.unit);
         format!(
             "<g class=\"{class}\" stroke=\"{colour}\" stroke-width=\"{width}\"{more}>\n{drawn}</g>\n"
         )
@@ -134,8 +146,7 @@ impl Frame {
     }
 }
 
-/// The path with its cuts, back-steps, jumps and start, and their numbers under it. A jump of
-/// length zero is a dot.
+/// The path with its cuts, back-steps, jumps and start, and their numbers under it.
 pub fn retrace(joined: &Joined) -> String {
     let frame = Frame::around(&joined.plate.points);
     let mut walked_back = BTreeSet::new();

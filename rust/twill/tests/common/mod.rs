@@ -1,5 +1,7 @@
 //! Runs the tool in a folder of its own.
 
+#![allow(dead_code, reason = "each file of tests uses its part")]
+
 use std::fs;
 use std::io::Write;
 use std::path::PathBuf;
@@ -9,7 +11,9 @@ use std::process::{Command, Output, Stdio};
 pub struct Folder(PathBuf);
 
 impl Folder {
+    /// The process's number keeps it apart where the tests are run twice at once.
     pub fn new(name: &str) -> Self {
+        let name = format!("{name}-{}", std::process::id());
         let path = PathBuf::from(env!("CARGO_TARGET_TMPDIR")).join(name);
         let _ = fs::remove_dir_all(&path);
         fs::create_dir_all(&path).unwrap();
@@ -73,7 +77,7 @@ pub struct Ran {
 }
 
 impl Ran {
-    fn of(output: Output) -> Self {
+    pub fn of(output: Output) -> Self {
         Self {
             status: output.status.code(),
             out: String::from_utf8(output.stdout).unwrap(),

@@ -113,7 +113,7 @@ impl<'v> Scan<'v> {
         let rest = self.rest();
         let found = match until_separator(rest) {
             _ if rest.is_empty() => "the end of the value".into(),
-            0 => format!("'{}'", &rest[..1]),
+            0 => format!("'{}'", excerpt(&rest[..1])),
             length => format!("'{}'", excerpt(&rest[..length])),
         };
         Remark::new(self.byte(), format!("{wanted} is expected here, not {found}"))

@@ -18,10 +18,14 @@ const ALTERING: [(&str, &[&str]); 7] = [
     ("rotate", &["none"]),
 ];
 
+/// Properties that move what has a transform.
+const ORIGIN: [&str; 2] = ["transform-origin", "transform-box"];
+
 /// Whether it has display none. A style's holds against an attribute's.
 pub fn is_hidden(element: &Element) -> bool {
-    let style = element.value("style").map_or("", |value| &value.text);
-    let displays = declarations(style).filter(|(_, property, _)| is_word(property, "display"));
+    let style = element.value("style").map(|value| without_comments(&value.text));
+    let style = style.unwrap_or_default();
+    let displays = declarations(&style).filter(|(_, property, _)| is_word(property, "display"));
     let attribute = element.value("display").map(|value| value.text.trim());
     let display = displays.last().map(|(_, _, value)| value).or(attribute);
     display.is_some_and(|value| is_word(value, "none"))
@@ -48,9 +52,9 @@ pub fn check(element: &Element, name: &str) -> Result<(), Remark> {
         "path" => &["d"],
         _ => &[],
     };
-    for (at, property, value) in declarations(&style.text) {
-        let is_geometry = geometry.iter().any(|word| is_word(property, word));
-        let is_origin = has_transform && is_word(property, "transform-origin");
+    for (at, property, value) in declarations(&without_comments(&style.text)) {
+        let is_geometry = is_one_of(property, geometry);
+        let is_origin = has_transform && is_one_of(property, &ORIGIN);
         if is_geometry || is_origin || alters(property, value) {
             let message = format!(
                 "{} has {} in its style, where it is not read",
@@ -71,8 +75,8 @@ pub fn check_sheet(content: Content) -> Result<(), Remark> {
         for (at, property, value) in declarations(rule.trim_end_matches(['{', '}'])) {
             let is_refused = alters(property, value)
                 || is_word(property, "display") && is_word(value, "none")
-                || is_word(property, "d") && !is_word(value, "none")
-                || ["x", "y", "rx", "ry"].iter().any(|word| is_word(property, word));
+                || is_one_of(property, &["d", "x", "y", "rx", "ry"])
+                || is_one_of(property, &ORIGIN);
             if is_refused {
                 let message = format!(
                     "the stylesheet has {}: {}, which is not read there",
@@ -87,10 +91,10 @@ pub fn check_sheet(content: Content) -> Result<(), Remark> {
     Ok(())
 }
 
-/// A sheet with blanks in place of its comments, so that all else keeps its place.
-fn without_comments(sheet: &str) -> String {
-    let mut kept = String::with_capacity(sheet.len());
-    let mut rest = sheet;
+/// A sheet or style with blanks in place of its comments, so that all else keeps its place.
+fn without_comments(style: &str) -> String {
+    let mut kept = String::with_capacity(style.len());
+    let mut rest = style;
     while let Some(start) = rest.find("/*") {
         let length = rest[start + 2..].find("*/").map_or(rest.len() - start, |end| end + 4);
         kept.push_str(&rest[..start]);
@@ -108,14 +112,19 @@ fn declarations(style: &str) -> impl Iterator<Item = (usize, &str, &str)> {
         next += declaration.len() + 1;
         let (property, value) = declaration.split_once(':')?;
         let blanks = property.len() - property.trim_start().len();
-        let value = value.trim().trim_end_matches("!important").trim_end();
-        Some((start + blanks, property.trim(), value))
+        // What follows a `!` is the word important.
+        let value = value.split('!').next().unwrap_or_default();
+        Some((start + blanks, property.trim(), value.trim()))
     })
 }
 
 fn alters(property: &str, value: &str) -> bool {
     let found = ALTERING.iter().find(|(name, _)| is_word(property, name));
-    found.is_some_and(|(_, harmless)| !harmless.iter().any(|word| is_word(value.trim(), word)))
+    found.is_some_and(|(_, harmless)| !is_one_of(value.trim(), harmless))
+}
+
+fn is_one_of(text: &str, words: &[&str]) -> bool {
+    words.iter().any(|word| is_word(text, word))
 }
 
 /// CSS has its words in either case.

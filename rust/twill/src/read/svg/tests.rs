@@ -213,6 +213,7 @@ fn sizes_that_are_none_are_refused() {
     assert_fault("<svg viewBox='0 0 5 ^x'/>", "a number is expected here, not 'x'");
     assert_fault("<svg width='5' height='^tall'/>", "a number is expected here, not 'tall'");
     assert_fault("<svg width='5^;' height='5'/>", "a unit is expected here, not ';'");
+    assert_fault("<svg width='5^\n5' height='5'/>", "a unit is expected here, not '\\n'");
 }
 
 #[test]
@@ -487,7 +488,7 @@ fn what_is_not_read_is_refused_by_name() {
     let message = "<svg:use id=\"u\\n\"> is not read: the picture would be incomplete";
     assert_fault("<svg>^<svg:use id='u\n'/></svg>", message);
     assert_fault("<svg><line>^<line/></line></svg>", "<line> stands within a shape");
-    for name in ["x", "y", "viewBox"] {
+    for name in ["x", "y", "width", "height", "viewBox"] {
         let message =
             format!("<svg id=\"in\"> within the picture has {name}: use a group with a transform");
         assert_fault(&format!("<svg><svg id='in' ^{name}='0'/></svg>"), &message);
@@ -502,6 +503,7 @@ fn what_is_not_displayed_is_passed_over() {
         "style='display:none'",
         "style='fill:red; Display : NONE !important ; stroke:none'",
         "style='display:inline;display:none'",
+        "style='/* a; */ display:/**/none ! Important'",
         "display='inline' style='display:none'",
     ];
     for attribute in hidden {
@@ -549,6 +551,9 @@ fn stylesheets_that_hide_or_move_are_refused() {
         ),
         ("<g display='none'><style>p{^d:path('M0')}</style></g>", "d: path('M0')"),
         ("<svg:style>@media print{p{^clip-path:url(#a)}}</svg:style>", "clip-path: url(#a)"),
+        ("<style><style>p{^mask:url(#a)}</style></style>", "mask: url(#a)"),
+        ("<style>p{^transform-origin:1px}</style>", "transform-origin: 1px"),
+        ("<style>path{^d:none}</style>", "d: none"),
     ] {
         let message = format!("the stylesheet has {declaration}, which is not read there");
         assert_fault(&format!("<svg>{marked}</svg>"), &message);
@@ -569,6 +574,7 @@ fn styles_that_move_or_shape_are_refused() {
         ("<rect style='&#32;;^width:9px'/>", "rect", "width"),
         ("<path style='fill:none;^d:none'/>", "path", "d"),
         ("<g transform='scale(1)' style='^transform-origin:0 0'/>", "g", "transform-origin"),
+        ("<g transform='scale(1)' style='/*;*/^transform-box:fill-box'/>", "g", "transform-box"),
     ];
     for (content, named, property) in cases {
         let message = format!("<{named}> has {property} in its style, where it is not read");
@@ -639,6 +645,9 @@ fn depth_and_number_are_not_limited() {
     let plate = read(&text).expect("a good file");
     assert_eq!((plate.lengths.len(), plate.bytes.len()), (100_002, 400_002));
     let attributes: String = (0..100_000).map(|i| format!(" a{i}='1'")).collect();
-    assert_eq!(read(&format!("<svg{attributes}/>")), Ok(Plate::default()));
+    let groups = "<g a='1'/>".repeat(100_000);
+    assert_eq!(read(&format!("<svg{attributes}>{groups}</svg>")), Ok(Plate::default()));
+    let sheets = ["<style>".repeat(deep), "</style>".repeat(deep)].concat();
+    assert_eq!(read(&format!("<svg>{sheets}</svg>")), Ok(Plate::default()));
     assert!(before.elapsed() < Duration::from_secs(20), "{:?}", before.elapsed());
 }

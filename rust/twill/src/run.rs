@@ -170,7 +170,7 @@ fn page(request: &PlateRequest, loaded: &Loaded) -> Result<(), Failure> {
         return Ok(());
     }
     let counts = words::counts(joined.path.counts());
-    output::print(&format!("{}: {counts}\n", file_name(&path)))
+    output::print(&format!("{}: {counts}; open it in a browser\n", file_name(&path)))
 }
 
 fn own_page(file: &Path) -> Result<PathBuf, Failure> {

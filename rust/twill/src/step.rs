@@ -78,7 +78,7 @@ fn pressed(
         let is_pending = decoder.is_pending();
         let wait = if is_pending { ESCAPE_WAIT } else { RESIZE_WAIT };
         match bytes.recv_timeout(wait) {
-            Ok(bytes) => keys.extend(bytes.iter().filter_map(|&byte| decoder.feed(byte))),
+            Ok(bytes) => bytes.iter().for_each(|&byte| decoder.feed(byte, &mut keys)),
             Err(RecvTimeoutError::Timeout) if is_pending => keys.extend(decoder.give_up()),
             Err(RecvTimeoutError::Timeout) if is_resized() => break,
             Err(RecvTimeoutError::Timeout) => {}
@@ -86,7 +86,7 @@ fn pressed(
         }
     }
     for bytes in bytes.try_iter() {
-        keys.extend(bytes.iter().filter_map(|&byte| decoder.feed(byte)));
+        bytes.iter().for_each(|&byte| decoder.feed(byte, &mut keys));
     }
     Some(keys)
 }

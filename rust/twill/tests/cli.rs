@@ -263,10 +263,10 @@ fn malformed_files_have_one_line_with_a_place_and_nothing_is_written() {
             b"<svg>\n<style>.a{display:none}</style></svg>",
             "e.svg:2:11: the stylesheet has display: none",
         ),
-        ("a.txt", b"1 2\n3 4\n5\n", "a.txt:3:2: a number as y expected, not the end of the line"),
+        ("a.txt", b"1 2\n3 4\n5\n", "a.txt:3:2: expected a number as y, not the end of the line"),
         ("b.txt", b"1 2\n\xff\xfe\n", "b.txt:2:1: what stands here is no UTF-8 text"),
         ("a.json", b"[[[1,2],\n [3]]]", "a.json:2:2: a point has two numbers, x and y"),
-        ("b.json", b"[[[1,2]]", "b.json:1:9: `,` or `]` expected, not the end of the file"),
+        ("b.json", b"[[[1,2]]", "b.json:1:9: expected `,` or `]`, not the end of the file"),
         (
             "c.json",
             "[[[1,\"\u{e9}\u{e9}\"],[3]]]".as_bytes(),

@@ -20,7 +20,7 @@ pub fn read(text: &str) -> Result<Plate, Remark> {
     }
     match reader.peek() {
         None => Ok(reader.plate),
-        Some(_) => Err(reader.fault("nothing more expected after the contours")),
+        Some(_) => Err(reader.fault("expected nothing more after the contours")),
     }
 }
 
@@ -146,7 +146,7 @@ impl<'a> Reader<'a> {
             Some(_) => Ok(()),
             None => {
                 let message =
-                    format!("\"inside\" or \"outside\" expected, not `{}`", excerpt(&word));
+                    format!("expected \"inside\" or \"outside\", not `{}`", excerpt(&word));
                 Err(Remark::new(byte, message))
             }
         }
@@ -249,7 +249,7 @@ impl<'a> Reader<'a> {
     }
 
     fn expected(&mut self, what: &str) -> Remark {
-        self.fault(&format!("{what} expected"))
+        self.fault(&format!("expected {what}"))
     }
 
     fn fault(&mut self, message: &str) -> Remark {
@@ -324,20 +324,20 @@ mod tests {
     #[test]
     fn faults_have_a_place() {
         let cases = [
-            ("[", 1, "a contour, an array of points expected, not the end of the file"),
-            ("[[[0,0]]", 8, "`,` or `]` expected, not the end of the file"),
-            ("[[[0,0],]]", 8, "a point, [x, y] expected, not `]`"),
+            ("[", 1, "expected a contour, an array of points, not the end of the file"),
+            ("[[[0,0]]", 8, "expected `,` or `]`, not the end of the file"),
+            ("[[[0,0],]]", 8, "expected a point, [x, y], not `]`"),
             ("[[[0]]]", 2, "a point has two numbers, x and y"),
             ("[[[0,1,2]]]", 2, "a point has two numbers, not 3"),
-            ("[[[0,01]]]", 5, "a number expected, not `01`"),
+            ("[[[0,01]]]", 5, "expected a number, not `01`"),
             ("[[[0,\"1k\"]]]", 5, "`1k` is no number"),
-            ("[[[0,null]]]", 5, "a number expected, not `null`"),
-            ("[[0,0]]", 2, "a point, [x, y] expected, not `0`"),
-            ("[[[0,\u{a0}1]]]", 5, "a number expected, not `\u{a0}`"),
-            ("[[[0\u{b},1]]]", 4, "`,` or `]` expected, not `\\u{b}`"),
+            ("[[[0,null]]]", 5, "expected a number, not `null`"),
+            ("[[0,0]]", 2, "expected a point, [x, y], not `0`"),
+            ("[[[0,\u{a0}1]]]", 5, "expected a number, not `\u{a0}`"),
+            ("[[[0\u{b},1]]]", 4, "expected `,` or `]`, not `\\u{b}`"),
             ("[[{\"x\":1}]]", 2, "a point has two numbers, x and y"),
             ("[[{\"x\":1,\"z\":1}]]", 9, "`z` is neither x nor y"),
-            ("[] []", 3, "nothing more expected after the contours, not `[`"),
+            ("[] []", 3, "expected nothing more after the contours, not `[`"),
             ("{}", 2, "the plate has no `contours`"),
             (
                 "{\"contour\":[]}",
@@ -348,9 +348,9 @@ mod tests {
             (
                 "{\"width\":1.5}",
                 9,
-                "as width a whole number from 0 to 4294967295 expected, not `1.5`",
+                "expected as width a whole number from 0 to 4294967295, not `1.5`",
             ),
-            ("{\"start\":\"in\"}", 9, "\"inside\" or \"outside\" expected, not `in`"),
+            ("{\"start\":\"in\"}", 9, "expected \"inside\" or \"outside\", not `in`"),
             ("{\"start", 1, "the string is not closed on its line"),
         ];
         for (text, byte, message) in cases {

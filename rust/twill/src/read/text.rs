@@ -114,7 +114,7 @@ impl<'a> Reader<'a> {
         match self.peek() {
             Some('|' | '#') => Ok(()),
             _ if self.line_end().is_some() => Ok(()),
-            _ => Err(self.expected(&format!("after {item} `|` or the end of the line"))),
+            _ => Err(self.expected(&format!("`|` or the end of the line after {item}"))),
         }
     }
 
@@ -206,7 +206,7 @@ impl<'a> Reader<'a> {
             ("", Some(sign)) => format!("`{}`", sign.escape_debug()),
             (word, _) => format!("`{}`", excerpt(word)),
         };
-        Remark::new(self.at, format!("{what} expected, not {found}"))
+        Remark::new(self.at, format!("expected {what}, not {found}"))
     }
 
     /// The length of a line's end, if one stands here; the file's end is one too.
@@ -287,42 +287,42 @@ mod tests {
     #[test]
     fn faults_have_a_place() {
         let cases = [
-            ("1 2\n3", 5, "a number as y expected, not the end of the file"),
-            ("1 2\n3\n4 5", 5, "a number as y expected, not the end of the line"),
-            ("1 2x", 2, "a number as y expected, not `2x`"),
-            ("(1,2", 4, "`)` expected, not the end of the file"),
-            ("(1,2,3)", 4, "`)` expected, not `,`"),
-            ("1,,2", 2, "a number as y expected, not `,`"),
-            ("| 1 2", 0, "a number as x expected, not `|`"),
-            ("(1,2) | | (3,4)", 8, "a contour expected, not `|`"),
-            ("(1,2) |", 7, "a contour expected, not the end of the file"),
-            ("(1,2) |\n\n", 7, "a contour expected, not the end of the line"),
-            ("1 2\nsizes 3 4", 4, "a number as x expected, not `sizes`"),
+            ("1 2\n3", 5, "expected a number as y, not the end of the file"),
+            ("1 2\n3\n4 5", 5, "expected a number as y, not the end of the line"),
+            ("1 2x", 2, "expected a number as y, not `2x`"),
+            ("(1,2", 4, "expected `)`, not the end of the file"),
+            ("(1,2,3)", 4, "expected `)`, not `,`"),
+            ("1,,2", 2, "expected a number as y, not `,`"),
+            ("| 1 2", 0, "expected a number as x, not `|`"),
+            ("(1,2) | | (3,4)", 8, "expected a contour, not `|`"),
+            ("(1,2) |", 7, "expected a contour, not the end of the file"),
+            ("(1,2) |\n\n", 7, "expected a contour, not the end of the line"),
+            ("1 2\nsizes 3 4", 4, "expected a number as x, not `sizes`"),
             (
                 "size 3",
                 6,
-                "as height a whole number from 0 to 4294967295 expected, not the end of the file",
+                "expected as height a whole number from 0 to 4294967295, not the end of the file",
             ),
-            ("size 3 -4", 7, "as height a whole number from 0 to 4294967295 expected, not `-4`"),
-            ("size 3 +4", 7, "as height a whole number from 0 to 4294967295 expected, not `+4`"),
+            ("size 3 -4", 7, "expected as height a whole number from 0 to 4294967295, not `-4`"),
+            ("size 3 +4", 7, "expected as height a whole number from 0 to 4294967295, not `+4`"),
             ("size 1 2\nsize 1 2", 9, "the size is given twice"),
-            ("size 1 2 3", 9, "the end of the line expected, not `3`"),
-            ("start in", 6, "`inside` or `outside` expected, not `in`"),
+            ("size 1 2 3", 9, "expected the end of the line, not `3`"),
+            ("start in", 6, "expected `inside` or `outside`, not `in`"),
             (
                 "1 2 start inside",
                 4,
-                "after a point without brackets `|` or the end of the line expected, not `start`",
+                "expected `|` or the end of the line after a point without brackets, not `start`",
             ),
-            ("empty 1 2", 6, "after empty `|` or the end of the line expected, not `1`"),
+            ("empty 1 2", 6, "expected `|` or the end of the line after empty, not `1`"),
             (
                 "1,5 2,5",
                 4,
-                "after a point without brackets `|` or the end of the line expected, not `2`",
+                "expected `|` or the end of the line after a point without brackets, not `2`",
             ),
             (
                 "0 0 1",
                 4,
-                "after a point without brackets `|` or the end of the line expected, not `1`",
+                "expected `|` or the end of the line after a point without brackets, not `1`",
             ),
         ];
         for (text, byte, message) in cases {

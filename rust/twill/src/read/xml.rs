@@ -102,6 +102,8 @@ impl<'a> Tokens<'a> {
                 self.skip("<!--", "-->", "comment")?;
             } else if rest.starts_with("<![CDATA[") && !self.open.is_empty() {
                 self.skip("<![CDATA[", "]]>", "CDATA section")?;
+            } else if rest.starts_with("<?xml-stylesheet") {
+                return Err(Remark::new(self.at, "a stylesheet of another file is not read"));
             } else if rest.starts_with("<?") {
                 self.skip("<?", "?>", "processing instruction")?;
             } else if rest.starts_with("<!DOCTYPE") {

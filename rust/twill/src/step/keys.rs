@@ -8,6 +8,9 @@ pub enum Key {
     Tab,
     Backspace,
     Escape,
+    /// An escape byte with another key at once: Esc before it, or Alt with it. It gives up what
+    /// is being typed, but does not leave.
+    Cancel,
     Left,
     Right,
     Up,
@@ -32,27 +35,29 @@ pub struct Decoder {
 }
 
 impl Decoder {
-    /// The key that the byte completes, if it completes one that is known.
-    pub fn feed(&mut self, byte: u8) -> Option<Key> {
+    /// Adds the keys that the byte completes, as far as they are known.
+    pub fn feed(&mut self, byte: u8, keys: &mut Vec<Key>) {
         match (self.pending.as_slice(), byte) {
-            (_, ESCAPE) => {
-                self.pending = vec![ESCAPE];
-                None
-            }
-            ([], _) => plain(byte),
-            // Nothing else keeps a control key from working.
-            (_, ..0x20 | 0x7F) => {
-                self.pending.clear();
-                plain(byte)
-            }
+            (_, ESCAPE) => self.pending = vec![ESCAPE],
+            ([], _) => keys.extend(plain(byte)),
             ([_], b'[' | b'O') | ([_, b'['], b'[') | ([_, _, ..], 0x20..=0x3F) => {
                 // No known sequence is as long; the end of a longer one is still found.
                 if self.pending.len() < 16 {
                     self.pending.push(byte);
                 }
-                None
             }
-            _ => sequence(&std::mem::take(&mut self.pending), byte),
+            ([_], _) => {
+                self.pending.clear();
+                if let Some(key) = plain(byte) {
+                    keys.extend([Key::Cancel, key]);
+                }
+            }
+            // Nothing keeps a control key from working.
+            (_, ..0x20 | 0x7F) => {
+                self.pending.clear();
+                keys.extend(plain(byte));
+            }
+            _ => keys.extend(sequence(&std::mem::take(&mut self.pending), byte)),
         }
     }
 
@@ -107,7 +112,10 @@ mod tests {
 
     fn keys(bytes: &[u8]) -> Vec<Key> {
         let mut decoder = Decoder::default();
-        let mut keys: Vec<Key> = bytes.iter().filter_map(|&b| decoder.feed(b)).collect();
+        let mut keys = Vec::new();
+        for &byte in bytes {
+            decoder.feed(byte, &mut keys);
+        }
         keys.extend(decoder.give_up());
         assert!(!decoder.is_pending());
         keys
@@ -147,7 +155,6 @@ mod tests {
             "\x1BOP",
             "\x1B[Z",
             "\x1B[?1;2c",
-            "\x1Bx",
             "\x1B[",
             "\x1BO",
             "\x1B[1;",
@@ -159,7 +166,7 @@ mod tests {
         for text in unknown {
             assert_eq!(keys(text.as_bytes()), [], "{text:?}");
         }
-        for text in &unknown[..8] {
+        for text in &unknown[..7] {
             assert_eq!(keys(format!("{text}n").as_bytes()), [Key::Char('n')], "{text:?}");
         }
     }
@@ -167,12 +174,24 @@ mod tests {
     #[test]
     fn a_sequence_that_is_split_is_one_key() {
         let mut decoder = Decoder::default();
-        assert_eq!((decoder.feed(0x1B), decoder.is_pending()), (None, true));
-        assert_eq!((decoder.feed(b'['), decoder.is_pending()), (None, true));
-        assert_eq!((decoder.feed(b'C'), decoder.is_pending()), (Some(Key::Right), false));
+        let mut fed = |byte| {
+            let mut keys = Vec::new();
+            decoder.feed(byte, &mut keys);
+            (keys, decoder.is_pending())
+        };
+        assert_eq!((fed(0x1B), fed(b'[')), ((vec![], true), (vec![], true)));
+        assert_eq!(fed(b'C'), (vec![Key::Right], false));
         // An unfinished one is no escape key.
-        assert_eq!((decoder.feed(0x1B), decoder.feed(b'['), decoder.give_up()), (None, None, None));
-        assert_eq!(decoder.feed(b'C'), Some(Key::Char('C')));
+        assert_eq!((fed(0x1B), fed(b'[')), ((vec![], true), (vec![], true)));
+        assert_eq!(decoder.give_up(), None);
+        assert_eq!(keys(b"C"), [Key::Char('C')]);
+    }
+
+    #[test]
+    fn a_key_at_once_after_an_escape_byte_is_not_lost() {
+        assert_eq!(keys(b"\x1Bn"), [Key::Cancel, Key::Char('n')]);
+        assert_eq!(keys(b"\x1B\r"), [Key::Cancel, Key::Enter]);
+        assert_eq!(keys(b"\x1B\x03"), [Key::Cancel, Key::Leave]);
     }
 
     #[test]

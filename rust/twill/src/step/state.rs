@@ -37,6 +37,7 @@ impl<'a> State<'a> {
         match key {
             Key::Leave => return ControlFlow::Break(()),
             Key::Redraw => {}
+            Key::Cancel => (self.entry, self.is_help) = (None, false),
             Key::Tab => self.page += 1,
             _ if self.is_help => {
                 self.is_help = false;
@@ -83,7 +84,7 @@ impl<'a> State<'a> {
                 self.page = 0;
             }
             Key::Char(other) => self.say(format!("No key {other}. ? lists them.")),
-            Key::Tab | Key::Escape | Key::Leave | Key::Redraw => {}
+            Key::Tab | Key::Escape | Key::Cancel | Key::Leave | Key::Redraw => {}
         }
     }
 
@@ -213,6 +214,11 @@ mod tests {
         walk(&mut state, &typed("3\n"));
         assert_eq!((state.entry.as_deref(), state.current), (None, 3));
         assert_eq!(walk(&mut state, &[Key::Char('2'), Key::Escape]), [3, 3]);
+        assert_eq!(
+            walk(&mut state, &[Key::Char('9'), Key::Cancel, Key::Left, Key::Right]),
+            [3, 3, 2, 3]
+        );
+        assert_eq!(walk(&mut state, &[Key::Cancel]), [3]);
         assert_eq!(walk(&mut state, &[Key::Char('g'), Key::Enter]), [3, 3]);
         assert_eq!(walk(&mut state, &[Key::Char('g'), Key::Backspace, Key::Left]), [3, 3, 2]);
         assert_eq!((state.entry, state.message), (None, None));

@@ -367,22 +367,26 @@ class Picture {
   }
 }
 
-/** The plate's rectangle and its centre, which decides on the start. */
+/** The plate's corners and its centre, which decides on the start. They are no lines that could
+ *  be taken for grooves to come. */
 function drawPlate(target, v) {
   const [left, top] = [acrossOf(v, 0), downOf(v, 0)];
   const [right, bottom] = [acrossOf(v, data.width), downOf(v, data.height)];
+  const arm = 6 * ratio;
   pen(target, FRAME, Math.max(1, ratio));
-  const held = (value, size) => Math.min(Math.max(value, -10), size + 10);
-  const [l, r] = [held(left, v.width), held(right, v.width)];
-  const [t, b] = [held(top, v.height), held(bottom, v.height)];
-  target.strokeRect(l, t, r - l, b - t);
-  const [x, y, arm] = [(left + right) / 2, (top + bottom) / 2, 6 * ratio];
-  if (!(Math.abs(x) < 1e5 && Math.abs(y) < 1e5)) return;
   target.beginPath();
-  target.moveTo(x - arm, y);
-  target.lineTo(x + arm, y);
-  target.moveTo(x, y - arm);
-  target.lineTo(x, y + arm);
+  const arms = (x, y, across, down) => {
+    if (!(Math.abs(x) < 1e5 && Math.abs(y) < 1e5)) return;
+    for (const dx of across) { target.moveTo(x, y); target.lineTo(x + dx * arm, y); }
+    for (const dy of down) { target.moveTo(x, y); target.lineTo(x, y + dy * arm); }
+  };
+  if (data.width && data.height) {
+    arms(left, top, [1], [1]);
+    arms(right, top, [-1], [1]);
+    arms(left, bottom, [1], [-1]);
+    arms(right, bottom, [-1], [-1]);
+  }
+  arms((left + right) / 2, (top + bottom) / 2, [-1, 1], [-1, 1]);
   target.stroke();
 }
 

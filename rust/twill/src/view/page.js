@@ -114,7 +114,12 @@ function play(now) {
 
 // ---- The panel. Numbers are shown in full.
 
-const plain = (number) => (Object.is(number, -0) ? "-0" : String(number));
+/** As the tool writes numbers: with an exponent below 1e-5 and from 1e16 on. */
+function plain(number) {
+  if (Object.is(number, -0)) return "-0";
+  const isLong = number !== 0 && (Math.abs(number) < 1e-5 || Math.abs(number) >= 1e16);
+  return isLong ? number.toExponential().replace("e+", "e") : String(number);
+}
 const grouped = (number) => number.toLocaleString("en-US");
 const pointText = ([x, y]) => `(${plain(x)}, ${plain(y)})`;
 const vertexText = ([contour, vertex]) => `contour ${grouped(contour)}, vertex ${grouped(vertex)}`;
@@ -261,10 +266,14 @@ function makeJumps() {
     if (row) go(Number(row.dataset.pair));
   });
   element("jumps-note").textContent = jumps.length ? "" : "(none)";
+  if (jumps.length > 40) element("jumps-printed").textContent = `(40 of ${grouped(jumps.length)})`;
   const widest = (place, least) =>
-    `${rows.reduce((most, row) => Math.max(most, row.children[place].textContent.length), least)}ch`;
-  element("jumps").style.setProperty("--pair-width", widest(0, 4));
-  element("jumps").style.setProperty("--contours-width", widest(1, 8));
+    rows.reduce((most, row) => Math.max(most, row.children[place].textContent.length), least);
+  const widths = [widest(0, 4), widest(1, 8), widest(2, 6)];
+  element("jumps").style.setProperty("--pair-width", `${widths[0]}ch`);
+  element("jumps").style.setProperty("--contours-width", `${widths[1]}ch`);
+  // A number is never cut: where the three do not fit, the length has a line of its own.
+  element("jumps").classList.toggle("two-lines", widths[0] + widths[1] + widths[2] > 33);
 }
 
 function selectJump() {

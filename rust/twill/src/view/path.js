@@ -3,7 +3,7 @@
 const START = 0, CUT = 1, BACK_STEP = 2, JUMP = 3;
 const KINDS = ["start", "cut", "back-step", "jump"];
 const COLOURS = ["#111111", "#111111", "#d55e00", "#0072b2"];
-const PALE = "#b9c2cc", FRAME = "#d3dae1", EDGE = "#333333", HALO = "#f0e442", SHEET = "#ffffff";
+const PALE = "#b9c2cc", FRAME = "#8a6fb0", EDGE = "#333333", HALO = "#f0e442", SHEET = "#ffffff";
 
 const element = (id) => document.getElementById(id);
 const data = JSON.parse(element("data").textContent);

@@ -1,5 +1,6 @@
 //! Pictures in SVG. The three kinds of pair differ without colour too: a cut is a thin line, a
-//! groove that is gone back over has a wide pale band under it, and a jump is dashed.
+//! groove that is gone back over has a wide pale band under it, and a jump is dashed. The colours
+//! are those of the page.
 
 use crate::joined::Joined;
 use crate::number::show;
@@ -9,10 +10,9 @@ use std::collections::BTreeSet;
 use std::fmt::Write;
 use twillharbor::{Entry, PairKind, Point};
 
-const CUT: &str = "#12263a";
-const BACK_STEP: &str = "#e69f00";
-const JUMP: &str = "#c1440e";
-const START: &str = "#00785a";
+const CUT: &str = "#111111";
+const BACK_STEP: &str = "#d55e00";
+const JUMP: &str = "#0072b2";
 
 /// How the lines of one kind are drawn.
 struct Style<'a> {
@@ -79,7 +79,7 @@ impl Frame {
     }
 
     fn back_steps(&self, data: &str) -> String {
-        let more = " stroke-opacity=\"0.5\"";
+        let more = " stroke-opacity=\"0.35\"";
         self.lines(data, Style { class: "back-steps", colour: BACK_STEP, width: 3.6, more })
     }
 
@@ -124,10 +124,8 @@ impl Frame {
     }
 
     fn ring(&self, p: Point) -> String {
-        let stroke = format!(
-            "class=\"start\" stroke=\"{START}\" stroke-width=\"{}\"",
-            show(1.2 * self.unit)
-        );
+        let stroke =
+            format!("class=\"start\" stroke=\"{CUT}\" stroke-width=\"{}\"", show(1.2 * self.unit));
         self.circle(p, 3.5, &stroke)
     }
 

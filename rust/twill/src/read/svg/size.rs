@@ -13,7 +13,7 @@ pub fn read(root: &Element, plate: &mut Plate) -> Result<(), Remark> {
         (None, _) => None,
     };
     if let (None, Some(side)) = (size, sides.into_iter().flatten().next()) {
-        let message = "the picture's size is not given in user units, so the plate has none; \
+        let message = "width and height are not both given in user units, so the plate has no size; \
                        --width and --height give one";
         plate.notes.push(Remark::new(side.place(0), message));
     }

@@ -38,6 +38,7 @@ pub fn check(element: &Element, name: &str) -> Result<(), Remark> {
         // As an attribute a transform is read.
         let is_refused = match attribute.name {
             "visibility" | "clip-path" | "mask" => alters(attribute.name, &attribute.value.text),
+            "systemLanguage" | "requiredExtensions" | "requiredFeatures" => true,
             "transform-origin" => has_transform,
             _ => false,
         };
@@ -47,6 +48,10 @@ pub fn check(element: &Element, name: &str) -> Result<(), Remark> {
         }
     }
     let Some(style) = element.value("style") else { return Ok(()) };
+    if let Some(at) = style.text.find('\\') {
+        let message = format!("{} has an escape in its style, which is not read", named(element));
+        return Err(Remark::new(style.place(at), message));
+    }
     let geometry: &[&str] = match name {
         "rect" => &["x", "y", "width", "height", "rx", "ry"],
         "path" => &["d"],
@@ -70,6 +75,11 @@ pub fn check(element: &Element, name: &str) -> Result<(), Remark> {
 /// A stylesheet is refused if it may hide, clip or move an element, whichever it is for.
 pub fn check_sheet(content: Content) -> Result<(), Remark> {
     let sheet = without_comments(content.text);
+    let unread = sheet.find('\\').or_else(|| sheet.to_ascii_lowercase().find("@import"));
+    if let Some(at) = unread {
+        let message = "the stylesheet has an import or an escape, which are not read";
+        return Err(Remark::new(content.byte + at, message));
+    }
     let mut start = 0;
     for rule in sheet.split_inclusive(['{', '}']) {
         for (at, property, value) in declarations(rule.trim_end_matches(['{', '}'])) {

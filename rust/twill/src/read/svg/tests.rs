@@ -528,6 +528,7 @@ fn attributes_that_hide_or_clip_are_refused() {
         ("<g ^visibility='hidden'><line/></g>", "visibility"),
         ("<g x='1' ^clip-path='url(#a)'/>", "clip-path"),
         ("<g ^mask='url(#a)'/>", "mask"),
+        ("<g ^systemLanguage='xx'/>", "systemLanguage"),
         ("<g transform='scale(1)' ^transform-origin='1 1'/>", "transform-origin"),
     ] {
         let message = format!("<g> has {property}, which is not read");
@@ -558,6 +559,13 @@ fn stylesheets_that_hide_or_move_are_refused() {
         let message = format!("the stylesheet has {declaration}, which is not read there");
         assert_fault(&format!("<svg>{marked}</svg>"), &message);
     }
+    let message = "the stylesheet has an import or an escape, which are not read";
+    assert_fault("<svg><style>^@Import url(a.css);</style></svg>", message);
+    assert_fault("<svg><style>.a{^\\64isplay:none}</style></svg>", message);
+    let message = "<g> has an escape in its style, which is not read";
+    assert_fault("<svg><g style='^\\64isplay:none'/></svg>", message);
+    let message = "a stylesheet of another file is not read";
+    assert_fault("^<?xml-stylesheet href='a.css'?><svg/>", message);
     let harmless = "<style>/* .a{display:none} */ .b{display:inline;fill:none} svg{width:100%} \
                     a:hover{stroke:red} .c{mask:none} /* open</style>";
     let drawn = format!("<svg>{harmless}<line/></svg>");

@@ -135,22 +135,33 @@ fn rows() -> Vec<Row> {
             rows.push(row(small_plate(kind, random), strategy, rows.len() / 2, random));
         }
     }
-    // Too many contours do not fit in a row.
-    for damage in plates::DAMAGES.into_iter().filter(|&damage| damage != Damage::ManyContours) {
+    for damage in fitting_damages() {
         for turn in 0..PLATES {
-            let copy = loop {
-                let (kind, _) = random.pick(&plates::KINDS);
-                let copy = plates::damaged(&small_plate(kind, random), damage, random);
-                let fits =
-                    copy.points.len() <= MOST_COORDINATES && copy.lengths.len() <= MOST_LENGTHS;
-                if fits && rule::checked(&copy.points, &copy.lengths).is_err() {
-                    break copy;
-                }
-            };
+            let copy = damaged_copy(damage, random);
             rows.push(row(copy, [Outside, Inside][turn % 2], turn, random));
         }
     }
     rows
+}
+
+fn fits(plate: &Plate) -> bool {
+    plate.points.len() <= MOST_COORDINATES && plate.lengths.len() <= MOST_LENGTHS
+}
+
+/// Too many contours do not fit in a row.
+fn fitting_damages() -> impl Iterator<Item = Damage> {
+    plates::DAMAGES.into_iter().filter(|&damage| damage != Damage::ManyContours)
+}
+
+/// A plate with this damage that is refused for it and fits in a row.
+fn damaged_copy(damage: Damage, random: &mut Random) -> Plate {
+    loop {
+        let (kind, _) = random.pick(&plates::KINDS);
+        let copy = plates::damaged(&small_plate(kind, random), damage, random);
+        if fits(&copy) && rule::checked(&copy.points, &copy.lengths).is_err() {
+            return copy;
+        }
+    }
 }
 
 fn row(plate: Plate, strategy: StartPointStrategy, turn: usize, random: &mut Random) -> Row {

@@ -88,6 +88,26 @@ pub fn run_in_chunks<K: Copy + Sync>(
     whole.shown.is_empty()
 }
 
+/// Runs one case again, of the kind with this number, and says whether it did not differ.
+pub fn run_one<K: Copy>(
+    kind: u64,
+    kinds: &[(K, &str)],
+    case: impl FnOnce(K) -> Result<(), String>,
+) -> Result<bool, String> {
+    let &(kind, name) = kinds.get(kind as usize).ok_or_else(|| format!("no kind {kind}"))?;
+    let outcome = case(kind);
+    match &outcome {
+        Ok(()) => println!("no difference, {name}"),
+        Err(difference) => println!("DIFFERENT, {name}: {difference}"),
+    }
+    Ok(outcome.is_ok())
+}
+
+/// The number of a kind, by which one of its cases is run again.
+pub fn number_of<K: PartialEq>(kind: &K, kinds: &[(K, &str)]) -> usize {
+    kinds.iter().position(|(known, _)| known == kind).expect("it is one of them")
+}
+
 fn chunk_of<K: Copy>(
     cases: Range<u64>,
     kinds: &[(K, &str)],
@@ -115,7 +135,7 @@ mod tests {
     use std::collections::BTreeSet;
     use std::sync::Mutex;
 
-    use super::{CHUNK, Plan, run};
+    use super::{CHUNK, Plan, number_of, run, run_one};
 
     #[test]
     fn one_difference_fails_the_run() {
@@ -128,6 +148,15 @@ mod tests {
             *seen += 1;
             if *seen == CHUNK + 7 { Err("made up".to_string()) } else { Ok(()) }
         }));
+    }
+
+    #[test]
+    fn a_case_is_run_again_by_its_number() {
+        let kinds = [(5, "first"), (6, "second")];
+        let case = |kind| if kind == 6 { Err("made up".to_string()) } else { Ok(()) };
+        assert_eq!(number_of(&6, &kinds), 1);
+        assert_eq!([0, 1].map(|number| run_one(number, &kinds, case)), [Ok(true), Ok(false)]);
+        assert!(run_one(2, &kinds, case).is_err());
     }
 
     #[test]

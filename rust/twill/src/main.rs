@@ -31,8 +31,8 @@ fn main() -> ExitCode {
     match outcome {
         Ok(()) => ExitCode::SUCCESS,
         Err(failure) => {
-            if !failure.line.is_empty() {
-                output::report(&failure.line);
+            if let Some(line) = &failure.line {
+                output::report(line);
             }
             ExitCode::from(failure.status)
         }

@@ -132,9 +132,9 @@ fn check(loaded: &Loaded) -> Result<(), Failure> {
     let Handed { points, lengths, size, strategy } = &loaded.plate;
     let joined = match retrace(loaded) {
         Ok(joined) => joined,
-        Err(failure) => {
-            output::print(&format!("{}\n", failure.line))?;
-            return Err(Failure::refused(String::new()));
+        Err(Failure { status, line }) => {
+            output::print(&format!("{}\n", line.unwrap_or_default()))?;
+            return Err(Failure { status, line: None });
         }
     };
     let mut lines = format!(

@@ -1,16 +1,15 @@
 //! The start, order and straight calls through the safe interface: document 01's plates A,
 //! B, C and G, and every refusal.
 
-use twillharbor::Refusal::{
-    Blank, Full, Miscounted, OffThePlate, TooManyContours, TooManyPoints, WorkShort,
-};
+mod refused;
+
+use twillharbor::Refusal::{Blank, Full, WorkShort};
 use twillharbor::StartPointStrategy::{Inside, Outside};
 use twillharbor::{
     Entry, Point, Refusal, Size, Start, StartPointStrategy, order, order_into, start, straight,
     straight_into,
 };
 
-const LIMIT: f64 = 1_000_000.0;
 const NOWHERE: Size = Size { width: 0, height: 0 };
 const TEN: Size = Size { width: 10, height: 10 };
 const BOTH: [StartPointStrategy; 2] = [Outside, Inside];
@@ -137,47 +136,26 @@ fn a_result_alters_nothing_beyond_it() {
 
 #[test]
 fn refusal_1_above_4096_contours() {
-    let lengths = vec![0; 4_096];
-    assert_eq!(order(&[], &lengths, TEN, Outside), Ok(vec![]));
-    assert_refused(&[], &[&lengths[..], &[0]].concat(), TooManyContours);
-    // Of several the lowest wins: 2, 3, 4 and 5 hold too.
-    assert_refused(&[f64::NAN], &[&lengths[..], &[u32::MAX]].concat(), TooManyContours);
+    assert_eq!(order(&[], &[0; 4_096], TEN, Outside), Ok(vec![]));
+    refused::above_4096_contours(assert_refused);
 }
 
 #[test]
 fn refusal_2_above_65536_points() {
-    let points = vec![1.0; 2 * 65_537];
-    let all = straight(&points[2..], &[65_535, 1], TEN, Outside);
+    let all = straight(&[1.0; 2 * 65_536], &[65_535, 1], TEN, Outside);
     assert_eq!(all.map(|path| path.len()), Ok(65_536));
-    assert_refused(&points, &[65_536, 1], TooManyPoints);
-    // The sum does not wrap.
-    assert_refused(&[], &[u32::MAX, 1], TooManyPoints);
-    assert_refused(&[1.0, 1.0], &[1 << 31, 1, 1 << 31], TooManyPoints);
-    assert_refused(&[f64::NAN], &[u32::MAX; 4_096], TooManyPoints);
+    refused::above_65536_points(assert_refused);
 }
 
 #[test]
 fn refusal_3_unless_the_points_are_twice_the_sum() {
-    let points = [1.0, 2.0, 3.0, f64::NAN, 5.0];
-    for count in [0, 1, 2, 3, 5] {
-        assert_refused(&points[..count], &[1, 0, 1], Miscounted);
-    }
-    assert_refused(&[1.0, 2.0], &[], Miscounted);
+    refused::unless_the_points_are_twice_the_sum(assert_refused);
 }
 
 #[test]
 fn refusal_4_at_the_first_coordinate_off_the_plate() {
-    let sound = [LIMIT, -LIMIT, 0.0, -0.0, LIMIT, 5e-324];
-    assert_eq!(order(&sound, &[1, 2], TEN, Outside).map(|entries| entries.len()), Ok(2));
-    let beyond = LIMIT.next_up();
-    for damaged in [beyond, -beyond, f64::INFINITY, f64::NEG_INFINITY, f64::NAN, -f64::NAN] {
-        for place in 0..6 {
-            let mut points = sound;
-            points[place] = damaged;
-            points[5] = damaged;
-            assert_refused(&points, &[1, 2], OffThePlate { place: place as u32 });
-        }
-    }
+    assert_eq!(order(&refused::SOUND, &[1, 2], TEN, Outside).map(|entries| entries.len()), Ok(2));
+    refused::at_the_first_coordinate_off_the_plate(assert_refused);
 }
 
 #[test]

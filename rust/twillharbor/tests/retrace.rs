@@ -1,16 +1,15 @@
 //! The retrace call through the safe interface: document 01's plates A and D to G, and every
 //! refusal.
 
-use twillharbor::Refusal::{
-    Full, Miscounted, OffThePlate, TooManyContours, TooManyPoints, WorkShort,
-};
+mod refused;
+
+use twillharbor::Refusal::{Full, WorkShort};
 use twillharbor::StartPointStrategy::{Inside, Outside};
 use twillharbor::{
     Counts, Mark, PairKind, Point, Refusal, Size, StartPointStrategy, retrace, retrace_into,
     retrace_work,
 };
 
-const LIMIT: f64 = 1_000_000.0;
 const MOST: u32 = 1_048_576;
 const BOTH: [StartPointStrategy; 2] = [Outside, Inside];
 
@@ -287,46 +286,26 @@ fn a_result_alters_nothing_beyond_it() {
 
 #[test]
 fn refusal_1_above_4096_contours() {
-    let lengths = vec![0; 4_096];
-    assert!(retrace(&[], &lengths, Size::default(), Outside).is_ok());
-    assert_refused(&[], &[&lengths[..], &[0]].concat(), TooManyContours);
-    // Of several the lowest wins: 2, 3, 4 and 5 hold too.
-    assert_refused(&[f64::NAN], &[&lengths[..], &[u32::MAX]].concat(), TooManyContours);
+    assert!(retrace(&[], &[0; 4_096], Size::default(), Outside).is_ok());
+    refused::above_4096_contours(assert_refused);
 }
 
 #[test]
 fn refusal_2_above_65536_points() {
-    let points = vec![1.0; 2 * 65_537];
-    let all = retrace(&points[2..], &[65_535, 1], Size::default(), Outside).unwrap();
+    let all = retrace(&[1.0; 2 * 65_536], &[65_535, 1], Size::default(), Outside).unwrap();
     assert_eq!((all.counts().cuts, all.counts().jumps), (65_534, 1));
-    assert_refused(&points, &[65_536, 1], TooManyPoints);
-    // The sum does not wrap.
-    assert_refused(&[], &[u32::MAX, 1], TooManyPoints);
-    assert_refused(&[1.0, 1.0], &[1 << 31, 1, 1 << 31], TooManyPoints);
+    refused::above_65536_points(assert_refused);
 }
 
 #[test]
 fn refusal_3_unless_the_points_are_twice_the_sum() {
-    let points = [1.0, 2.0, 3.0, f64::NAN, 5.0];
-    for count in [0, 1, 2, 3, 5] {
-        assert_refused(&points[..count], &[1, 0, 1], Miscounted);
-    }
-    assert_refused(&[1.0, 2.0], &[], Miscounted);
+    refused::unless_the_points_are_twice_the_sum(assert_refused);
 }
 
 #[test]
 fn refusal_4_at_the_first_coordinate_off_the_plate() {
-    let sound = [LIMIT, -LIMIT, 0.0, -0.0, LIMIT, 5e-324];
-    assert!(retrace(&sound, &[1, 2], Size::default(), Outside).is_ok());
-    let beyond = LIMIT.next_up();
-    for damaged in [beyond, -beyond, f64::INFINITY, f64::NEG_INFINITY, f64::NAN, -f64::NAN] {
-        for place in 0..6 {
-            let mut points = sound;
-            points[place] = damaged;
-            points[5] = damaged;
-            assert_refused(&points, &[1, 2], OffThePlate { place: place as u32 });
-        }
-    }
+    assert!(retrace(&refused::SOUND, &[1, 2], Size::default(), Outside).is_ok());
+    refused::at_the_first_coordinate_off_the_plate(assert_refused);
 }
 
 #[test]

@@ -22,9 +22,12 @@ use harness::random::Random;
 use twillharbor::Size;
 use twillharbor::StartPointStrategy::{self, Inside, Outside};
 
-use super::{MOST_COORDINATES, MOST_LENGTHS, PATH_FILL, Words, refused_plates};
+use super::{
+    MOST_COORDINATES, MOST_LENGTHS, PATH_FILL, Words, damaged_copy, fits, fitting_damages,
+    refused_plates,
+};
 use crate::lent::Number;
-use crate::plates::{DAMAGES, Damage, Plate, damaged, small_plate};
+use crate::plates::{Plate, small_plate};
 use crate::reference::retrace;
 use crate::retrace_plates::{KINDS, Kind, plate};
 use crate::rule;
@@ -100,24 +103,13 @@ fn rows() -> Vec<Row> {
             rows.push(row(plate, strategy, rows.len(), random));
         }
     }
-    // Too many contours do not fit in a row.
-    for damage in DAMAGES.into_iter().filter(|&damage| damage != Damage::ManyContours) {
+    for damage in fitting_damages() {
         for turn in 0..DAMAGED {
-            let copy = loop {
-                let (kind, _) = random.pick(&crate::plates::KINDS);
-                let copy = damaged(&small_plate(kind, random), damage, random);
-                if fits(&copy) && rule::checked(&copy.points, &copy.lengths).is_err() {
-                    break copy;
-                }
-            };
+            let copy = damaged_copy(damage, random);
             rows.push(row(copy, random.pick(&[Outside, Inside]), ROOMY + turn, random));
         }
     }
     rows
-}
-
-fn fits(plate: &Plate) -> bool {
-    plate.points.len() <= MOST_COORDINATES && plate.lengths.len() <= MOST_LENGTHS
 }
 
 /// How many points the path has: of more than fit in a row, one more than fits.

@@ -1,7 +1,14 @@
 /*
  * The C interface of Twillharbor: target/staticlib/libtwillharbor.a, which
- * `rt staticlib twillharbor` writes. It links nothing else, allocates nothing and
- * keeps nothing between calls.
+ * `rt staticlib twillharbor` writes. It allocates nothing and keeps nothing between calls.
+ * Of the C library it needs fmod, memmove and memset: link it with -lm.
+ *
+ * Floating point. A call computes in the floating-point environment of the thread that
+ * makes it, and its answers hold for IEEE 754's default environment alone: rounding to
+ * nearest, ties to even, and subnormal numbers kept, as results and as operands. On x86-64
+ * that is MXCSR with round-to-nearest, and flush-to-zero and denormals-are-zero clear;
+ * some compilers' -ffast-math sets the latter two for the whole program. With them set,
+ * twillharbor_distance(0, 0, 0x1p-537, 0) gives 0 in place of 0x1p-1074.
  *
  * Results. Every call returns a struct by value. Its `number` is 0 for a result,
  * otherwise the number of a refusal; then `place` is the refusal's place and every

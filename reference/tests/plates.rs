@@ -63,6 +63,16 @@ fn d_to_g_retrace() {
     );
 }
 
+/// The path has the point twice, once in each contour.
+#[test]
+fn a_jump_of_length_zero() {
+    let plate = plate(&[&[(0.0, 0.0), (4.0, 0.0)], &[(4.0, 0.0)]]);
+    assert_eq!(
+        door::join_retrace(&plate, Inside, size(0, 0)),
+        polyline(&[(0.0, 0.0), (4.0, 0.0), (4.0, 0.0)])
+    );
+}
+
 #[test]
 fn g_order_and_straight() {
     let g = plate(&[&[(0.0, 0.0)], &[(1.0, 0.0)], &[(0.0, 1.0)]]);

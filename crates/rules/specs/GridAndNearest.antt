@@ -124,7 +124,7 @@ found c = Found (record { 0 = c .place }) (c .squared)
 unfoldable pub wins : PathPoint → ℕ → Float → Bool
 wins c i d = lt (c .squared) d || (eq (c .squared) d && ltb i (c .place))
 
--- (After Nothing the Rust takes only a distance below infinity: the same, since those of accepted points are finite.)
+-- (After Nothing the Rust takes any distance but a NaN: the same, since those of accepted points are numbers.)
 unfoldable pub nearer : Nearest → PathPoint → Nearest
 nearer Nothing c = found c
 nearer (Found i d) c = pick (wins c (i .0) d) (found c) (Found i d)

@@ -503,6 +503,11 @@ table =
     (along whole ((4, 0) ∷ (13, 0) ∷ (4, 0) ∷ (4, 1) ∷ (8, 1) ∷ (12, 1) ∷ (8, 1) ∷ (4, 1) ∷ (0, 1) ∷ []))
     ((0, 0) ∷ (1, 0) ∷ (2, 0) ∷ (3, 3) ∷ (1, 3) ∷ (1, 4) ∷ (2, 4) ∷ (2, 3) ∷ (1, 2) ∷ [])
     (joined 9 4 3 1)
+    -- a jump of length zero counts as a jump
+    ∷ retraces (drawn whole ((0, 0) ∷ (4, 0) ∷ [] ∣ (4, 0) ∷ [] ∣ []) 0 0 Inside)
+    (along whole ((0, 0) ∷ (4, 0) ∷ (4, 0) ∷ []))
+    ((0, 0) ∷ (1, 0) ∷ (3, 2) ∷ [])
+    (joined 3 1 0 1)
     -- contours that hold no point are skipped, and are no jumps
     ∷ retraces skipping
     (along whole ((0, 0) ∷ (4, 0) ∷ (5, 0) ∷ (9, 0) ∷ (5, 0) ∷ (4, 0) ∷ (0, 0) ∷ (1, 1) ∷ (1, 2) ∷ (1, 1) ∷ (0, 0) ∷ (4, 0) ∷ (5, 0) ∷ (9, 0) ∷ (9, 1) ∷ []))

@@ -4,6 +4,11 @@
 //! The work is done by a static library that was proved to give what document 01
 //! of the project defines. This crate calls it: it turns slices and results into
 //! Rust's types and a refusal into an error. It computes nothing itself.
+//!
+//! The answers hold for IEEE 754's default floating-point environment alone: rounding to
+//! nearest, ties to even, and subnormal numbers kept, as results and as operands. Rust itself
+//! asks for that environment. Where linked code of another language has set flush-to-zero or
+//! denormals-are-zero (as C's `-ffast-math` may for the whole program), clear them before a call.
 
 #![deny(unsafe_code)]
 

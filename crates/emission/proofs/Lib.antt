@@ -1,4 +1,1 @@
-pub mod Putting
-pub mod Drawing
-pub mod Walking
 pub mod Emitting

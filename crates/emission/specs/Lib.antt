@@ -1,3 +1,1 @@
 pub mod Drawn
-pub mod Wrote
-pub mod Pen

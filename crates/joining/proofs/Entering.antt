@@ -18,8 +18,8 @@ use Rattle.path.specs.Lists.{length-upFrom}
 use Rattle.path.specs.Nearest.{nearest-place}
 use Rattle.history.specs.History.{points}
 use Rattle.history.specs.Points.{points-are}
-use Rattle.emission.specs.Wrote.{Wrote, wrote-full}
-use Rattle.emission.specs.Pen.{Grows}
+use Rattle.path_points.specs.Wrote.{Wrote, wrote-full}
+use Rattle.path_points.specs.Pen.{Grows}
 use Rattle.emission.specs.Drawn.{drawn, emit-is}
 
 -- the points that the history has are those of the steps

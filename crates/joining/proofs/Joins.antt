@@ -26,8 +26,8 @@ use Rattle.history.specs.Appending.{ready-kept}
 use Rattle.caches.specs.Querying.{Querying}
 use Rattle.start.specs.declared.Contour as code
 use Rattle.start.specs.Oriented.{contourOf}
-use Rattle.emission.specs.Wrote.{Wrote, wrote-full}
-use Rattle.emission.specs.Pen.{Pen, Grows}
+use Rattle.path_points.specs.Wrote.{Wrote, wrote-full}
+use Rattle.path_points.specs.Pen.{Pen, Grows}
 use Rattle.joining.specs.Lines.{Lines}
 use Rattle.joining.specs.Joining.{Joining}
 use Rattle.joining.proofs.Entering.{points-written}

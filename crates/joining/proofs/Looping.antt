@@ -27,7 +27,7 @@ use Rattle.choosing.specs.declared.Chosen.the-variants.{Candidate, Nobody}
 use Rattle.rules.specs.declared.Vertex.{Vertex}
 use Rattle.start.specs.declared.Contour as code
 use Rattle.start.specs.Oriented.{contourOf}
-use Rattle.emission.specs.Pen.{Pen, Grows}
+use Rattle.path_points.specs.Pen.{Pen, Grows}
 use Rattle.joining.specs.Lines.{Lines}
 use Rattle.joining.specs.Joining.{Joining, CanJoin, Joined}
 use Rattle.joining.proofs.Candidates.{Enters, Within, within, some-waiting}

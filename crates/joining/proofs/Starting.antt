@@ -29,8 +29,8 @@ use Rattle.history.specs.History.{points, Ready}
 use Rattle.history.specs.Appending.{ready-kept}
 use Rattle.caches.specs.Querying.{Querying}
 use Rattle.choosing.specs.Lining.{lined-same, lined-map, lined-few}
-use Rattle.emission.specs.Wrote.{Wrote, wrote-full}
-use Rattle.emission.specs.Pen.{Pen}
+use Rattle.path_points.specs.Wrote.{Wrote, wrote-full}
+use Rattle.path_points.specs.Pen.{Pen}
 use Rattle.emission.specs.Drawn.{drawn, entryOf, begin-is}
 use Rattle.joining.specs.Lent.{Lent}
 use Rattle.joining.specs.Lines.{Lines}

@@ -14,8 +14,8 @@ use Rattle.path.specs.Joining.{Coming, contourOf}
 use Rattle.layout.specs.Parts.{from}
 use Rattle.layout.specs.declared.Layout.{Layout}
 use Rattle.prepare.specs.Prepared.{Prepared}
-use Rattle.emission.specs.Pen.{Pen}
-use Rattle.emission.specs.Wrote.{Wrote}
+use Rattle.path_points.specs.Pen.{Pen}
+use Rattle.path_points.specs.Wrote.{Wrote}
 use Rattle.joining.specs.Lines.{Lines}
 
 -- ws wait and steps are written, after `turn` contours have entered; the slices held `was` and `marked` before

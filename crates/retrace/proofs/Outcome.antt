@@ -19,7 +19,7 @@ use Rattle.path.specs.Theorem.{path-statement}
 use Rattle.plate.specs.Refused.{checked-refuses, checked-passes}
 use Rattle.slices.specs.Pairs.{pairs-take, coordinates-take}
 use Rattle.slices.specs.Outcome.{after-checked, work-same}
-use Rattle.emission.specs.Wrote.{Wrote, marks-pairs}
+use Rattle.path_points.specs.Wrote.{Wrote, marks-pairs}
 
 -- `a` is the call's answer, and the slices afterwards are path′, ms′, work′ and ds′
 abbrev pub Met : Plate → List Float → List ℕ → List ℕ → List Float → Answer Counts → List Float → List ℕ → List ℕ → List Float → Type 0

@@ -6,7 +6,7 @@ use native.Mathlib.Omega.{arith}
 use Rattle.rules.specs.Tools.{downTo}
 use Rattle.rules.specs.RetraceAndMarks.{Step, cutDown}
 use Rattle.path.specs.Accepted.{point-on}
-use Rattle.emission.proofs.Drawing.{Drawing, drawing-none, drawing-then, down-snoc}
+use Rattle.path_points.specs.Drawing.{Drawing, drawing-none, drawing-then, down-snoc}
 use borrow.Author.Needs.{needs}
 use Rattle.emission.proofs.cut_down.Statement.{statement}
 use Rattle.emission.proofs.cut_down.Tie as tie

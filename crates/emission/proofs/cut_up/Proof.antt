@@ -7,7 +7,7 @@ use native.Mathlib.Omega.{arith}
 use Rattle.rules.specs.Tools.{upFrom}
 use Rattle.rules.specs.RetraceAndMarks.{Step, cutUp}
 use Rattle.path.specs.Accepted.{point-on}
-use Rattle.emission.proofs.Drawing.{Drawing, drawing-none, drawing-then, up-snoc}
+use Rattle.path_points.specs.Drawing.{Drawing, drawing-none, drawing-then, up-snoc}
 use borrow.Author.Needs.{needs}
 use Rattle.emission.proofs.cut_up.Statement.{statement}
 use Rattle.emission.proofs.cut_up.Tie as tie

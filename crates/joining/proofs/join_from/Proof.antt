@@ -8,7 +8,7 @@ use native.Mathlib.Omega.{arith}
 use Rattle.rules.specs.HandedOver.{plate}
 use Rattle.rules.specs.declared.StartPointStrategy.the-variants.{Outside}
 use Rattle.start.specs.Oriented.{contourOf, orientedOf}
-use Rattle.emission.specs.Wrote.{wrote-none}
+use Rattle.path_points.specs.Wrote.{wrote-none}
 use Rattle.joining.proofs.Starting.{start-full, start-querying, start-joining, start-wrote, start-pen, retrace-is}
 use borrow.Author.Needs.{needs}
 use Rattle.joining.proofs.join_from.Statement.{statement}

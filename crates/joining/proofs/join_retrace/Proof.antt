@@ -5,7 +5,7 @@ use Rattle.rules.specs.HandedOver.{plate}
 use Rattle.rules.specs.GridAndNearest.{gridOf}
 use Rattle.start.specs.Oriented.{orientedOf, leadOf}
 use Rattle.bounds.specs.Boxes.{accepted-sound}
-use Rattle.emission.specs.Wrote.{wrote-none}
+use Rattle.path_points.specs.Wrote.{wrote-none}
 use Rattle.joining.proofs.Leading.{lead-placed, retrace-some, retrace-none}
 use borrow.Author.Needs.{needs}
 use Rattle.joining.proofs.join_retrace.Statement.{statement}

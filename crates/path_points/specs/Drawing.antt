@@ -10,7 +10,7 @@ use Rattle.rules.specs.Tools.{upFrom, downTo}
 use Rattle.rules.specs.RetraceAndMarks.{Step}
 use Rattle.rules.specs.declared.SpatialGrid.{SpatialGrid}
 use Rattle.layout.specs.Parts.{KeptFrom}
-use Rattle.emission.specs.Pen.{Pen, Grows}
+use Rattle.path_points.specs.Pen.{Pen, Grows}
 
 -- from the slices that were lent, with a count, to those that hold f of what they held
 pub record Drawing (xs : List Float) (g : SpatialGrid) (room count : ℕ) (path : List Float) (ms work : List ℕ) (k : ℕ) (path′ : List Float) (ms′ work′ : List ℕ) (f : List Step → List Step) : Type 0 where

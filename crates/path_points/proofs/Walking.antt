@@ -13,9 +13,9 @@ use Rattle.rules.specs.declared.Point.{Point}
 use Rattle.rules.specs.declared.SpatialGrid.{SpatialGrid}
 use Rattle.path.specs.Pairs.{vertex-old}
 use Rattle.layout.specs.Parts.{KeptFrom}
-use Rattle.emission.specs.Wrote.{Wrote, wrote-full, wrote-at}
-use Rattle.emission.specs.Pen.{Pen, Grows}
-use Rattle.emission.proofs.Drawing.{Drawing, drawing-none, drawing-on, down-snoc}
+use Rattle.path_points.specs.Wrote.{Wrote, wrote-full, wrote-at}
+use Rattle.path_points.specs.Pen.{Pen, Grows}
+use Rattle.path_points.specs.Drawing.{Drawing, drawing-none, drawing-on, down-snoc}
 
 -- the path with the walk from its end, place count - 1, down to a place
 abbrev pub walked : ℕ → ℕ → List Step → List Step

@@ -7,7 +7,7 @@ use Rattle.rules.specs.RetraceAndMarks.{Step}
 use Rattle.rules.specs.declared.SpatialGrid.{SpatialGrid}
 use Rattle.grid.specs.Sane.{Sane}
 use Rattle.history.specs.History.{Ready}
-use Rattle.emission.specs.Wrote.{Wrote}
+use Rattle.path_points.specs.Wrote.{Wrote}
 
 -- there is room for so many points in the slices, and the history is that of the points written
 pub record Pen (g : SpatialGrid) (room count : ℕ) (path : List Float) (ms work : List ℕ) : Type 0 where

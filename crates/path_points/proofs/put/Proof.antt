@@ -1,11 +1,11 @@
--- `emission::put` meets its contract. Assumes nothing.
+-- `path_points::put` meets its contract. Assumes nothing.
 use mathlib.Core.Path.{refl}
 use native.Mathlib.Omega.{arith}
 use lib.ListN.{length-set}
-use Rattle.emission.proofs.Putting.{full-pen, full-grows, put-pen, put-grows, put-kept}
+use Rattle.path_points.proofs.Putting.{full-pen, full-grows, put-pen, put-grows, put-kept}
 use borrow.Author.Needs.{needs}
-use Rattle.emission.proofs.put.Statement.{statement}
-use Rattle.emission.proofs.put.Tie as tie
+use Rattle.path_points.proofs.put.Statement.{statement}
+use Rattle.path_points.proofs.put.Tie as tie
 
 add-result : tie.Need-add-result
 add-result c = search needs

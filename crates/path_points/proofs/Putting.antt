@@ -13,8 +13,8 @@ use Rattle.path.specs.FiniteDistances.{OnPlate}
 use Rattle.layout.specs.Parts.{KeptFrom}
 use Rattle.history.specs.History.{inserted}
 use Rattle.history.specs.Appending.{ready-append, inserted-kept}
-use Rattle.emission.specs.Wrote.{wrote-over, wrote-put}
-use Rattle.emission.specs.Pen.{Pen, Grows}
+use Rattle.path_points.specs.Wrote.{wrote-over, wrote-put}
+use Rattle.path_points.specs.Pen.{Pen, Grows}
 
 module _ (g : SpatialGrid) (room count : ℕ) (path : List Float) (ms work : List ℕ) (h : Pen g room count path ms work) where
   pub full-pen : Pen g room (room + 1) path ms work

@@ -1,14 +1,14 @@
--- `emission::walk_back` meets its contract. Assumes nothing.
+-- `path_points::walk_back` meets its contract. Assumes nothing.
 use mathlib.Core.Path.{refl}
 use mathlib.Core.List.{[]}
 use Prim.Native.Nat.{_-_, _≤_}
 use native.Mathlib.Omega.{arith}
 use Rattle.rules.specs.HandedOver.{at}
-use Rattle.emission.specs.Wrote.{wrote-full}
-use Rattle.emission.proofs.Walking.{Walking, walking-start, walking-on, walking-full, walking-done}
+use Rattle.path_points.specs.Wrote.{wrote-full}
+use Rattle.path_points.proofs.Walking.{Walking, walking-start, walking-on, walking-full, walking-done}
 use borrow.Author.Needs.{needs}
-use Rattle.emission.proofs.walk_back.Statement.{statement}
-use Rattle.emission.proofs.walk_back.Tie as tie
+use Rattle.path_points.proofs.walk_back.Statement.{statement}
+use Rattle.path_points.proofs.walk_back.Tie as tie
 
 abbrev Inv-loop : tie.InvT-loop
 Inv-loop g room path₀ marks₀ work₀ count h place₀ k₀ path marks work place k =

@@ -1,0 +1,3 @@
+pub mod Wrote
+pub mod Pen
+pub mod Drawing

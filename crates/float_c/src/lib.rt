@@ -1,14 +1,14 @@
-// The leaves of crate float, exported for runs and for the benchmark: no part of the product's interface.
+// The float leaves, exported for runs and for the benchmark: no part of the product's interface.
 ghost use mathlib.Core.Path.{_≡_};
 ghost use lib.Ieee.{toUnsigned};
 ghost use Rattle.rules.specs.GridAndNearest.{ceiling};
 ghost use Rattle.rounding.specs.Magnitude.{nonNegative};
 ghost use Rattle.float_c.specs.Domain.{squarePlus, squareRoot};
-use float::cast::ceiling;
-use float::cast::truncated;
-use float::order::is_finite;
-use float::root::square_root;
-use float::sum::square_plus;
+use compare::is_finite;
+use fused_sum::square_plus;
+use magnitude::cast::ceiling;
+use magnitude::cast::truncated;
+use square_root::square_root;
 
 // The domain of the root, and of the sum's second number.
 fn is_non_negative(x: f64) -> bool

@@ -5,10 +5,10 @@ ghost use Rattle.rules.specs.GridAndNearest.{widen, box, cellSize, cellsAlong, 
 ghost use Rattle.rules.specs.SamplesAndCache.{cellNumber};
 ghost use Rattle.bounds.specs.Boxes.{Sound};
 ghost use Rattle.grid.specs.Sane.{Sane};
-use float::cast::ceiling;
-use float::cast::truncated;
-use float::order::greater;
-use float::order::lesser;
+use compare::greater;
+use compare::lesser;
+use magnitude::cast::ceiling;
+use magnitude::cast::truncated;
 use rules::BoundingBox;
 use rules::Point;
 use rules::SpatialGrid;

@@ -4,13 +4,13 @@ ghost use mathlib.Core.List.{[], _∷_};
 ghost use Rattle.rules.specs.HandedOver.{distanceLimit, firstOff, distanceAnswer};
 ghost use Rattle.rules.specs.Distances as distances;
 ghost use Rattle.rules.specs.Calls.{distanceCall};
-use float::order::is_finite;
-use float::root::square_root;
-use float::sum::square_plus;
+use compare::is_finite;
+use fused_sum::square_plus;
 use plate::in_range;
 use rules::DistanceAnswer;
 use rules::Point;
 use rules::Refusal;
+use square_root::square_root;
 
 pub mod bound;
 

@@ -1,7 +1,8 @@
 -- `history::nearer` meets its contract. Assumes nothing.
+use mathlib.Core.Path.{sym, _∙_}
 use borrow.Author.Tests.{lt-ltb, le-ltb}
 use Rattle.rules.specs.GridAndNearest.{wins, found}
-use Rattle.point.specs.Bound.{above-not-below, above-not-equal}
+use Rattle.point.specs.Bound.{beyond-above, above-not-below, above-not-equal}
 use Rattle.history.proofs.Winning.{first-found, passed-over, wins-over}
 use borrow.Author.Needs.{needs}
 use Rattle.history.proofs.nearer.Statement.{statement}
@@ -26,7 +27,7 @@ is-beyond-requires c κs = search needs
 returns-2 : tie.Need-returns-2
 unfolding wins
 returns-2 c =
-    let far = c .before .is-beyond .ensures (c .if1 .taken) in
+    let far = beyond-above _ _ _ (sym (c .before .is-beyond .ensures) ∙ c .if1 .taken) in
     λ g. passed-over _ _ _ _ (c .before .before .before .best .given .1) (rw (above-not-below _ _ far, above-not-equal _ _ far))
 
 distance-squared-requires-2 : tie.Need-distance-squared-requires-2

@@ -1,6 +1,8 @@
 -- `optimize::nearest::is_passed_over` meets its contract. Assumes nothing.
+use mathlib.Core.Path.{sym, _∙_}
 use mathlib.Core.Bool.{false≢true}
 use borrow.Author.Tests.{not-false}
+use Rattle.point.specs.Bound.{beyond-above}
 use Rattle.start.specs.Oriented.{contourOf, orientedOf}
 use Rattle.optimize.specs.Choice.{choiceOf}
 use Rattle.optimize.proofs.Choices.{passed-over}
@@ -41,8 +43,8 @@ returns-3 c = λ h p e.
     let g = c .before .before .before .before .before .before .before .best .given .1 in
     rw g
     (passed-over p _ _ _ _ _ _ _ _ e (c .before .before .before .before .before .point-at .ensures) (c .before .point-at2 .ensures)
-    (c .before .before .before .before .is-beyond .ensures (not-false _ (c .before .before .before .if1 .left)))
-    (c .is-beyond2 .ensures h))
+    (beyond-above _ _ _ (sym (c .before .before .before .before .is-beyond .ensures) ∙ not-false _ (c .before .before .before .if1 .left)))
+    (beyond-above _ _ _ (sym (c .is-beyond2 .ensures) ∙ h)))
 
 pub is-passed-over-spec : {M : Type 1} → statement M
 is-passed-over-spec =

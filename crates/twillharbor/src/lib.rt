@@ -1,10 +1,11 @@
 // The C interface. A result's number is 0; a refusal has its number and its place, and 0 in every other field.
 ghost use mathlib.Core.Path.{_≡_};
-ghost use Prim.Native.Nat.{ℕ};
-ghost use lib.ListN.{length};
+ghost use Prim.Native.Nat.{ℕ, _*_, _≤_};
+ghost use lib.ListN.{length, take};
 ghost use Rattle.rules.specs.HandedOver.{plate, refuses, refusal, WorkKept};
+ghost use Rattle.rules.specs.PathStatement.{contourCount, Divides};
 ghost use Rattle.rules.specs.Calls.{distanceCall, startCall, orderCall, straightCall, retraceCall};
-ghost use Rattle.twillharbor.specs.Results.{pointOf, strategyOf, distanceResult, startResult, orderResult, straightResult, retraceResult};
+ghost use Rattle.twillharbor.specs.Results.{pointOf, strategyOf, distanceResult, startResult, orderResult, straightResult, retraceResult, countsOf};
 use order::order_call;
 use point::distance_call;
 use retrace::retrace_call;
@@ -234,9 +235,11 @@ pub extern "C" fn twillharbor_retrace(
     distances: &mut [f64],
 ) -> RetraceResult
     ensures { λ r. ⌜
-        (let o = retraceCall (plate (now (points .entry)) (now (lengths .entry)) width height (strategyOf inside)) (now (path .entry)) (now (marks .entry)) (length (now (work .entry))) (length (now (distances .entry))) in
+        (let p = plate (now (points .entry)) (now (lengths .entry)) width height (strategyOf inside) in
+        let o = retraceCall p (now (path .entry)) (now (marks .entry)) (length (now (work .entry))) (length (now (distances .entry))) in
         (r ≡ retraceResult (o .answer)) × (now (path .exit) ≡ o .path) × (now (marks .exit) ≡ o .marks)
-        × WorkKept (o .answer) (now (work .entry)) (now (work .exit)) × WorkKept (o .answer) (now (distances .entry)) (now (distances .exit))) ⌝ }
+        × WorkKept (o .answer) (now (work .entry)) (now (work .exit)) × WorkKept (o .answer) (now (distances .entry)) (now (distances .exit))
+        × (r .number ≡ 0 → 1 ≤ contourCount p → Divides p (countsOf r) (take (2 * r .points) (now (path .exit))) (take (2 * r .points) (now (marks .exit))))) ⌝ }
 {
     let strategy = strategy_of(inside);
     let answer = retrace_call(

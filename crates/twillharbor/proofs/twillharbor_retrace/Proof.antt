@@ -1,11 +1,26 @@
 -- `twillharbor::twillharbor_retrace` meets its contract. Assumes nothing.
 use mathlib.Core.Path.{_≡_, sym, ap, _∙_}
-use Rattle.rules.specs.HandedOver.{retraceAnswer}
+use Prim.Native.Nat.{ℕ}
+use native.Mathlib.Omega.{arith}
+use Rattle.rules.specs.HandedOver.{refuses, refusal, retraceAnswer}
+use Rattle.rules.specs.declared.Refusal.{Refusal}
+use Rattle.rules.specs.declared.Refusal.the-variants.{TooManyContours, TooManyPoints, Miscounted, OffThePlate, WorkShort, Full, Blank}
 use Rattle.plate.specs.Refused.{refused}
-use Rattle.twillharbor.specs.Results.{retraceResult}
+use Rattle.twillharbor.specs.Results.{retraceResult, countsOf}
 use borrow.Author.Needs.{needs}
 use Rattle.twillharbor.proofs.twillharbor_retrace.Statement.{statement}
 use Rattle.twillharbor.proofs.twillharbor_retrace.Tie as tie
+
+-- no refusal has the number of a result
+not-zero : (r : Refusal) (n k : ℕ) → refusal {A = ℕ} r ≡ refuses n k → n ≡ 0 → ⊥
+unfolding refusal
+not-zero TooManyContours n k h z = let e : _≡_ {A = ℕ} 1 n = cc in omega arith
+not-zero TooManyPoints n k h z = let e : _≡_ {A = ℕ} 2 n = cc in omega arith
+not-zero Miscounted n k h z = let e : _≡_ {A = ℕ} 3 n = cc in omega arith
+not-zero (OffThePlate i) n k h z = let e : _≡_ {A = ℕ} 4 n = cc in omega arith
+not-zero (WorkShort i) n k h z = let e : _≡_ {A = ℕ} 5 n = cc in omega arith
+not-zero (Full i) n k h z = let e : _≡_ {A = ℕ} 6 n = cc in omega arith
+not-zero Blank n k h z = let e : _≡_ {A = ℕ} 7 n = cc in omega arith
 
 strategy-of-requires : tie.Need-strategy-of-requires
 strategy-of-requires c κs = search needs
@@ -35,10 +50,12 @@ same-length-4 : tie.Need-same-length-4
 same-length-4 c = search needs
 
 returns : tie.Need-returns
-unfolding retraceResult retraceAnswer
+unfolding retraceResult countsOf retraceAnswer
 returns c =
-    let e = rw (c .before .before .before .before .before .before .before .before .before .before .before .before .before .before .before .before .strategy-of .ensures) at (c .before .before .before .before .before .before .before .before .before .before .before .retrace-call .ensures .0) in
-    (ap retraceResult (ap retraceAnswer (sym (c .before .answer .given .1)) ∙ e .0), e .1, e .2, e .3, e .4)
+    let k = c .before .before .before .before .before .before .before .before .before .before .before in
+    let e = rw (k .before .before .before .before .before .strategy-of .ensures) at (k .retrace-call .ensures) in
+    let a = ap retraceAnswer (c .before .answer .given .1) in
+    (ap retraceResult (sym a ∙ e .0 .0), e .0 .1, e .0 .2, e .0 .3, e .0 .4, λ z l. e .1 _ a l)
 
 same-length-5 : tie.Need-same-length-5
 same-length-5 c = search needs
@@ -55,13 +72,11 @@ same-length-8 c = search needs
 returns-2 : tie.Need-returns-2
 unfolding retraceResult retraceAnswer
 returns-2 c =
-    let e = rw (c .before .before .before .before .before .before .before .before .before .before .before .before .before .before .before .before .before .strategy-of .ensures) at (c .before .before .before .before .before .before .before .before .before .before .before .before .retrace-call .ensures .0) in (
-      ap retraceResult (sym (refused _ _ _ (c .numbers-of .ensures)) ∙ ap retraceAnswer (sym (c .before .before .answer2 .given .1)) ∙ e .0),
-      e .1,
-      e .2,
-      e .3,
-      e .4,
-    )
+    let k = c .before .before .before .before .before .before .before .before .before .before .before .before in
+    let e = rw (k .before .before .before .before .before .strategy-of .ensures) at (k .retrace-call .ensures) in
+    let a = ap retraceAnswer (c .before .before .answer2 .given .1) in
+    let n = c .numbers-of .ensures in
+    (ap retraceResult (sym (refused _ _ _ n) ∙ sym a ∙ e .0 .0), e .0 .1, e .0 .2, e .0 .3, e .0 .4, λ z l. absurd (not-zero _ _ _ n z))
 
 pub twillharbor-retrace-spec : {M : Type 1} → statement M
 twillharbor-retrace-spec =

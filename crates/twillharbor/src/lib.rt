@@ -150,7 +150,8 @@ pub extern "C" fn twillharbor_order(
     work: &mut [u32],
 ) -> OrderResult
     ensures { λ r. ⌜
-        (let o = orderCall (plate (now (points .entry)) (now (lengths .entry)) width height (strategyOf inside)) (now (order .entry)) (length (now (work .entry))) in
+        (let p = plate (now (points .entry)) (now (lengths .entry)) width height (strategyOf inside) in
+        let o = orderCall p (now (order .entry)) (length (now (work .entry))) in
         (r ≡ orderResult (o .answer)) × (now (order .exit) ≡ o .order) × WorkKept (o .answer) (now (work .entry)) (now (work .exit))) ⌝ }
 {
     let strategy = strategy_of(inside);
@@ -190,7 +191,8 @@ pub extern "C" fn twillharbor_straight(
     work: &mut [u32],
 ) -> StraightResult
     ensures { λ r. ⌜
-        (let o = straightCall (plate (now (points .entry)) (now (lengths .entry)) width height (strategyOf inside)) (now (path .entry)) (length (now (work .entry))) in
+        (let p = plate (now (points .entry)) (now (lengths .entry)) width height (strategyOf inside) in
+        let o = straightCall p (now (path .entry)) (length (now (work .entry))) in
         (r ≡ straightResult (o .answer)) × (now (path .exit) ≡ o .path) × WorkKept (o .answer) (now (work .entry)) (now (work .exit))) ⌝ }
 {
     let strategy = strategy_of(inside);
@@ -222,6 +224,7 @@ pub struct RetraceResult {
     pub jumps: u32,
 }
 
+// Where the number is 0 and a contour holds a point, what was written divides as the path statement (rules/specs/PathStatement.antt) says.
 #[no_mangle]
 pub extern "C" fn twillharbor_retrace(
     points: &[f64],
@@ -239,7 +242,8 @@ pub extern "C" fn twillharbor_retrace(
         let o = retraceCall p (now (path .entry)) (now (marks .entry)) (length (now (work .entry))) (length (now (distances .entry))) in
         (r ≡ retraceResult (o .answer)) × (now (path .exit) ≡ o .path) × (now (marks .exit) ≡ o .marks)
         × WorkKept (o .answer) (now (work .entry)) (now (work .exit)) × WorkKept (o .answer) (now (distances .entry)) (now (distances .exit))
-        × (r .number ≡ 0 → 1 ≤ contourCount p → Divides p (countsOf r) (take (2 * r .points) (now (path .exit))) (take (2 * r .points) (now (marks .exit))))) ⌝ }
+        × (r .number ≡ 0 → 1 ≤ contourCount p →
+        Divides p (countsOf r) (take (2 * r .points) (now (path .exit))) (take (2 * r .points) (now (marks .exit))))) ⌝ }
 {
     let strategy = strategy_of(inside);
     let answer = retrace_call(

@@ -27,8 +27,9 @@ returns c = ap distanceResult (ap distanceAnswer (sym (c .before .answer .given 
 returns-2 : tie.Need-returns-2
 unfolding distanceResult pointOf distanceAnswer ofBits
 returns-2 c =
-    ap distanceResult
-    (sym (refused _ _ _ (c .numbers-of .ensures)) ∙ ap distanceAnswer (sym (c .before .before .answer2 .given .1)) ∙ c .before .before .before .before .distance-call .ensures)
+    let a = ap distanceAnswer (c .before .before .answer2 .given .1) in
+    let e = c .before .before .before .before .distance-call .ensures in
+    ap distanceResult (sym (refused _ _ _ (c .numbers-of .ensures)) ∙ sym a ∙ e)
 
 pub twillharbor-distance-spec : {M : Type 1} → statement M
 twillharbor-distance-spec =

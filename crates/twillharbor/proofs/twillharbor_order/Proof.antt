@@ -31,8 +31,10 @@ same-length-2 c = search needs
 returns : tie.Need-returns
 unfolding orderResult orderAnswer
 returns c =
-    let e = rw (c .before .before .before .before .before .before .before .before .before .before .strategy-of .ensures) at (c .before .before .before .before .before .before .before .order-call .ensures) in
-    (ap orderResult (ap orderAnswer (sym (c .before .answer .given .1)) ∙ e .0), e .1, e .2)
+    let k = c .before .before .before .before .before .before .before in
+    let e = rw (k .before .before .before .strategy-of .ensures) at (k .order-call .ensures) in
+    let a = ap orderAnswer (c .before .answer .given .1) in
+    (ap orderResult (sym a ∙ e .0), e .1, e .2)
 
 same-length-3 : tie.Need-same-length-3
 same-length-3 c = search needs
@@ -43,8 +45,10 @@ same-length-4 c = search needs
 returns-2 : tie.Need-returns-2
 unfolding orderResult orderAnswer
 returns-2 c =
-    let e = rw (c .before .before .before .before .before .before .before .before .before .before .before .strategy-of .ensures) at (c .before .before .before .before .before .before .before .before .order-call .ensures) in
-    (ap orderResult (sym (refused _ _ _ (c .numbers-of .ensures)) ∙ ap orderAnswer (sym (c .before .before .answer2 .given .1)) ∙ e .0), e .1, e .2)
+    let k = c .before .before .before .before .before .before .before .before in
+    let e = rw (k .before .before .before .strategy-of .ensures) at (k .order-call .ensures) in
+    let a = ap orderAnswer (c .before .before .answer2 .given .1) in
+    (ap orderResult (sym (refused _ _ _ (c .numbers-of .ensures)) ∙ sym a ∙ e .0), e .1, e .2)
 
 pub twillharbor-order-spec : {M : Type 1} → statement M
 twillharbor-order-spec =

@@ -31,8 +31,10 @@ same-length-2 c = search needs
 returns : tie.Need-returns
 unfolding straightResult straightAnswer
 returns c =
-    let e = rw (c .before .before .before .before .before .before .before .before .before .before .strategy-of .ensures) at (c .before .before .before .before .before .before .before .straight-call .ensures) in
-    (ap straightResult (ap straightAnswer (sym (c .before .answer .given .1)) ∙ e .0), e .1, e .2)
+    let k = c .before .before .before .before .before .before .before in
+    let e = rw (k .before .before .before .strategy-of .ensures) at (k .straight-call .ensures) in
+    let a = ap straightAnswer (c .before .answer .given .1) in
+    (ap straightResult (sym a ∙ e .0), e .1, e .2)
 
 same-length-3 : tie.Need-same-length-3
 same-length-3 c = search needs
@@ -43,8 +45,10 @@ same-length-4 c = search needs
 returns-2 : tie.Need-returns-2
 unfolding straightResult straightAnswer
 returns-2 c =
-    let e = rw (c .before .before .before .before .before .before .before .before .before .before .before .strategy-of .ensures) at (c .before .before .before .before .before .before .before .before .straight-call .ensures) in
-    (ap straightResult (sym (refused _ _ _ (c .numbers-of .ensures)) ∙ ap straightAnswer (sym (c .before .before .answer2 .given .1)) ∙ e .0), e .1, e .2)
+    let k = c .before .before .before .before .before .before .before .before in
+    let e = rw (k .before .before .before .strategy-of .ensures) at (k .straight-call .ensures) in
+    let a = ap straightAnswer (c .before .before .answer2 .given .1) in
+    (ap straightResult (sym (refused _ _ _ (c .numbers-of .ensures)) ∙ sym a ∙ e .0), e .1, e .2)
 
 pub twillharbor-straight-spec : {M : Type 1} → statement M
 twillharbor-straight-spec =

@@ -1,6 +1,6 @@
 // The float leaves, exported for runs and for the benchmark: no part of the product's interface.
 ghost use mathlib.Core.Path.{_≡_};
-ghost use lib.Ieee.{toUnsigned};
+ghost use lib.Ieee.{binary64, rem, toUnsigned};
 ghost use Rattle.rules.specs.GridAndNearest.{ceiling};
 ghost use Rattle.rounding.specs.Magnitude.{nonNegative};
 ghost use Rattle.float_c.specs.Domain.{squarePlus, squareRoot};
@@ -54,4 +54,11 @@ pub extern "C" fn twillharbor_float_ceiling(x: f64) -> u32
     ensures { λ r. ⌜ r ≡ ceiling 32 x ⌝ }
 {
     ceiling(x)
+}
+
+#[no_mangle]
+pub extern "C" fn twillharbor_float_remainder(t: f64, s: f64) -> f64
+    ensures { λ r. ⌜ r ≡ rem binary64 t s ⌝ }
+{
+    t % s
 }

@@ -18,3 +18,5 @@ pub mod Truncated
 pub mod Ceiling
 pub mod Finite
 pub mod Range
+pub mod Remainder
+pub mod Conversions

@@ -28,6 +28,12 @@ pub fn with_exponent(random: &mut Random, e: i64) -> f64 {
     }
 }
 
+/// A magnitude of any exponent.
+pub fn any(random: &mut Random) -> f64 {
+    let e = random.between(-1074, 1023);
+    with_exponent(random, e)
+}
+
 /// x or -x.
 pub fn signed(random: &mut Random, x: f64) -> f64 {
     if random.one_in(2) { x } else { -x }

@@ -1,9 +1,10 @@
-//! The float leaves against Rust's own `mul_add`, `sqrt`, `as u32` and `ceil`.
+//! The float leaves against Rust's own `mul_add`, `sqrt`, `as u32`, `ceil` and `%`.
 
 use harness::leaves;
 use harness::random::Random;
 
-use crate::floats::{nearly_halfway_root, nudged, power, scaled, signed, tie, with_exponent};
+use crate::floats::{any, nearly_halfway_root, nudged, power, scaled, signed, tie, with_exponent};
+use crate::remainders::{self, Kind as Remainder};
 use crate::run::{self, Plan};
 
 /// What is called, and on what sort of numbers.
@@ -23,9 +24,10 @@ enum Kind {
     WholeAnyBits,
     WholeNearIntegers,
     WholeEdges,
+    Remainder(Remainder),
 }
 
-const KINDS: [(Kind, &str); 14] = [
+const KINDS: [(Kind, &str); 21] = [
     (Kind::SumFullRange, "square plus: full exponent range"),
     (Kind::SumAlike, "square plus: exponents alike"),
     (Kind::SumTies, "square plus: ties and next to them"),
@@ -40,6 +42,13 @@ const KINDS: [(Kind, &str); 14] = [
     (Kind::WholeAnyBits, "truncated and ceiling: any bits"),
     (Kind::WholeNearIntegers, "truncated and ceiling: near whole numbers"),
     (Kind::WholeEdges, "truncated and ceiling: edges"),
+    (Kind::Remainder(Remainder::FullRange), "remainder: full exponent range"),
+    (Kind::Remainder(Remainder::FarAbove), "remainder: far above the divisor"),
+    (Kind::Remainder(Remainder::Alike), "remainder: exponents alike"),
+    (Kind::Remainder(Remainder::Multiples), "remainder: multiples and next to them"),
+    (Kind::Remainder(Remainder::Subnormal), "remainder: subnormals"),
+    (Kind::Remainder(Remainder::Samples), "remainder: totals and cell sizes of plates"),
+    (Kind::Remainder(Remainder::Special), "remainder: zeros, infinities and NaN"),
 ];
 
 pub fn run(plan: Plan) -> bool {
@@ -168,13 +177,8 @@ fn case(kind: Kind, random: &mut Random) -> Result<(), String> {
             let steps = random.between(-3, 3);
             whole(if edge.is_nan() { edge } else { nudged(edge, steps) })
         }
+        Kind::Remainder(kind) => remainders::case(kind, random),
     }
-}
-
-/// A magnitude of any exponent.
-fn any(random: &mut Random) -> f64 {
-    let e = random.between(-1074, 1023);
-    with_exponent(random, e)
 }
 
 fn any_normal(random: &mut Random) -> f64 {

@@ -15,6 +15,7 @@ mod pairs;
 mod plates;
 mod record;
 mod reference;
+mod remainders;
 mod retrace_plates;
 mod retracing;
 mod rule;

@@ -14,6 +14,9 @@ unsafe extern "C" {
 
     /// The least whole number not below x, as `x.ceil() as u32`. For every x.
     pub safe fn twillharbor_float_ceiling(x: f64) -> u32;
+
+    /// The remainder, as `t % s`. For all t and s.
+    pub safe fn twillharbor_float_remainder(t: f64, s: f64) -> f64;
 }
 
 /// x × x + y, rounded once.
@@ -46,4 +49,9 @@ pub fn truncated(x: f64) -> u32 {
 /// The least whole number that is not below x, as `x.ceil() as u32` gives it.
 pub fn ceiling(x: f64) -> u32 {
     twillharbor_float_ceiling(x)
+}
+
+/// The remainder, as `t % s` gives it.
+pub fn remainder(t: f64, s: f64) -> f64 {
+    twillharbor_float_remainder(t, s)
 }

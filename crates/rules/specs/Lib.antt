@@ -9,3 +9,4 @@ pub mod OrderAndStraight
 pub mod Calls
 pub mod PathStatement
 pub mod MarkedPlates
+pub mod UndividedPaths

@@ -1,9 +1,14 @@
--- A corollary of the path statement: the pairs of neighbouring path points by the coordinates in the path slice, not by vertices.
--- Where the retrace call answers with counts, and the plate has one contour or more that is not empty, path points k and k + 1 are what the mark of path
--- point k + 1 says, by its kind and its reference r:
---   a cut: their coordinates are those of the two ends of segment r of a contour, in one of its two senses;
---   a back-step: they are those of path points r + 1 and r, an earlier pair;
---   or a jump: the second's are those of vertex r of a contour, and no earlier path point in the nine cells around it is nearer than the first.
+-- A corollary of the path statement, said of the slices as the retrace call leaves them: the pairs of neighbouring path points by the coordinates in the path
+-- slice, not by vertices. Where the call answers with the counts c, and the plate has one contour or more that is not empty:
+--   room          the slices have room for c's path points;
+--   start         the first mark is a start, and names a vertex of a contour;
+--   coordinates   each path point has the coordinates of the vertex that the marks give it;
+--   pairs         path points k and k + 1 are what the mark of path point k + 1 says, by its kind and its reference r:
+--                   a cut: their coordinates are those of the two ends of segment r of a contour, in one of its two senses;
+--                   a back-step: they are those of path points r + 1 and r, an earlier pair;
+--                   or a jump: the second's are those of vertex r of a contour that no earlier path point is of, and no earlier path point in the nine
+--                   cells around it is nearer than the first;
+--   kinds, cuts, jumps, all, once   as in `Divides`, of the marks that were written.
 -- Assumes nothing.
 use mathlib.Core.Path.{_≡_, sym, ap, _∙_}
 use mathlib.Core.Bool.{not}
@@ -13,14 +18,14 @@ use Prim.Native.Nat.{ℕ, suc, _+_, _*_, _≤_, _<_}
 use native.Mathlib.Omega.{arith}
 use lib.Dec.{T}
 use lib.Ieee.{Float, nan, lt}
-use lib.ListN.{take}
+use lib.ListN.{length, take, length-take}
 use lib.Seq.{getD-take}
 use Rattle.rules.specs.HandedOver.{Plate, Contour, at, gives}
 use Rattle.rules.specs.Distances.{distanceSquared}
 use Rattle.rules.specs.GridAndNearest.{box, gridOf, cellOf, square, within}
-use Rattle.rules.specs.RetraceAndMarks.{cutKind, backStepKind, jumpKind}
+use Rattle.rules.specs.RetraceAndMarks.{startKind, cutKind, backStepKind, jumpKind, marksOf}
 use Rattle.rules.specs.Calls.{retraceCall}
-use Rattle.rules.specs.PathStatement.{contourCount, IsContour, OfContour, kindAt, referenceAt, vertexIn, Pair, PathStatement}
+use Rattle.rules.specs.PathStatement.{contourCount, segmentCount, IsContour, Of, OfContour, NotOf, kindAt, referenceAt, vertexIn, cutsOf, Pair, PathStatement}
 use Rattle.rules.specs.declared.Counts.{Counts}
 use Rattle.path.specs.Theorem.{path-statement}
 
@@ -37,9 +42,10 @@ pub record WrittenBackStep (path : List Float) (k r : ℕ) : Type 0 where
   pub from : at path k ≡ at path (suc r)
   pub to : at path (suc k) ≡ at path r
 
-pub record WrittenJump (p : Plate) (path : List Float) (k r : ℕ) : Type 0 where
+-- v gives each path point's vertex
+pub record WrittenJump (p : Plate) (path : List Float) (v : ℕ → ℕ) (k r : ℕ) : Type 0 where
   pub landing : at path (suc k) ≡ at (p .points) r
-  pub vertex : OfContour p r
+  pub fresh : (c : Contour) × IsContour p c × Of c r × ((i : ℕ) → i ≤ k → NotOf c (v i))
   pub nearest :
       let g = gridOf (box (p .points)) in
       let q = at path (suc k) in
@@ -47,9 +53,25 @@ pub record WrittenJump (p : Plate) (path : List Float) (k r : ℕ) : Type 0 wher
       → T (not (lt (distanceSquared q (at path i)) (distanceSquared q (at path k))))
 
 -- path points k and k + 1 of a path slice, the mark of path point k + 1 having this kind and the reference r
-abbrev pub WrittenPair : Plate → List Float → ℕ → ℕ → ℕ → Type 0
-WrittenPair p path k kind r =
-    ((kind ≡ cutKind) × WrittenCut p path k r) ⊎ ((kind ≡ backStepKind) × WrittenBackStep path k r) ⊎ ((kind ≡ jumpKind) × WrittenJump p path k r)
+abbrev pub WrittenPair : Plate → List Float → (ℕ → ℕ) → ℕ → ℕ → ℕ → Type 0
+WrittenPair p path v k kind r =
+    ((kind ≡ cutKind) × WrittenCut p path k r) ⊎ ((kind ≡ backStepKind) × WrittenBackStep path k r) ⊎ ((kind ≡ jumpKind) × WrittenJump p path v k r)
+
+-- a path slice and a marks slice, in which c's path points were written
+pub record Written (p : Plate) (c : Counts) (path : List Float) (ms : List ℕ) : Type 0 where
+  pub room : (2 * c .points ≤ length path) × (2 * c .points ≤ length ms)
+  pub start : (kindAt ms 0 ≡ startKind) × OfContour p (referenceAt ms 0)
+  pub coordinates : let v = vertexIn (take (2 * c .points) ms) in (k : ℕ) → k < c .points → at path k ≡ at (p .points) (v k)
+  pub pairs :
+      let v = vertexIn (take (2 * c .points) ms) in
+      (k : ℕ) → suc k < c .points → WrittenPair p path v k (kindAt ms (suc k)) (referenceAt ms (suc k))
+  pub kinds :
+      let written = take (2 * c .points) ms in
+      (c .cuts ≡ marksOf cutKind written) × (c .«back_steps» ≡ marksOf backStepKind written) × (c .jumps ≡ marksOf jumpKind written)
+  pub cuts : c .cuts ≡ segmentCount p
+  pub jumps : c .jumps + 1 ≡ contourCount p
+  pub all : c .points ≡ segmentCount p + c .«back_steps» + contourCount p
+  pub once : (d : Contour) → IsContour p d → (i : ℕ) → i < d .last → cutsOf (d .first + i) (take (2 * c .points) ms) ≡ 1
 
 unfoldable pub WrittenStatement : Type 0
 WrittenStatement =
@@ -57,14 +79,13 @@ WrittenStatement =
     let o = retraceCall p path ms w d in
     o .answer ≡ gives c →
     1 ≤ contourCount p →
-    (k : ℕ) → suc k < c .points → WrittenPair p (o .path) k (kindAt (o .marks) (suc k)) (referenceAt (o .marks) (suc k))
+    Written p c (o .path) (o .marks)
 
 -- ---- its proof
 
 -- the first n points of a path slice have the coordinates of the vertices v
 module _ (p : Plate) (path : List Float) (v : ℕ → ℕ) (n : ℕ) (has : (i : ℕ) → i < n → at path i ≡ at (p .points) (v i)) (k : ℕ) (h : suc k < n) where
-  pair-written : (kind r : ℕ) → Pair p v k kind r → WrittenPair p path k kind r
-  unfolding OfContour
+  pair-written : (kind r : ℕ) → Pair p v k kind r → WrittenPair p path v k kind r
   pair-written kind r (inl (e, c)) =
       inl (
         e,
@@ -87,12 +108,11 @@ module _ (p : Plate) (path : List Float) (v : ℕ → ℕ) (n : ℕ) (has : (i :
       ))
   pair-written kind r (inr (inr (e, j))) =
       let q : at path (suc k) ≡ at (p .points) r = has (suc k) h ∙ ap (at (p .points)) (j .landing) in
-      let f = j .fresh in
       inr (inr (
         e,
         record {
           landing = q;
-          vertex = (f .0, f .1, f .2);
+          fresh = j .fresh;
           nearest = λ i l. rw (q, has i (omega arith), has k (omega arith)) (j .nearest i l);
         },
       ))
@@ -110,11 +130,28 @@ reference-take : (n : ℕ) (ms : List ℕ) (k : ℕ) → k < n → referenceAt (
 unfolding referenceAt
 reference-take n ms k h = getD-take (2 * n) ms (2 * k + 1) 0 (omega arith)
 
+room-taken : {A : Type 0} (n : ℕ) (xs : List A) → length (take n xs) ≡ n → n ≤ length xs
+room-taken n xs e = omega (arith, length-take n xs)
+
 pub written-statement : WrittenStatement
 unfolding WrittenStatement PathStatement
-written-statement p path ms w d c e h k l =
+written-statement p path ms w d c e h =
     let o = retraceCall p path ms w d in
+    let n = c .points in
     let divides = path-statement p path ms w d c e h .3 in
-    rw (← kind-take (c .points) (o .marks) (suc k) l, ← reference-take (c .points) (o .marks) (suc k) l)
-    (pair-written p (o .path) (vertexIn (take (2 * c .points) (o .marks))) (c .points)
-    (λ i x. sym (at-take (c .points) (o .path) i x) ∙ divides .coordinates i x) k l _ _ (divides .pairs k l))
+    let some : 0 < n = omega (arith, divides .all) in
+    let has : (i : ℕ) → i < n → at (o .path) i ≡ at (p .points) (vertexIn (take (2 * n) (o .marks)) i) =
+    λ i x. sym (at-take n (o .path) i x) ∙ divides .coordinates i x in
+    record {
+      room = (room-taken (2 * n) (o .path) (divides .whole .0), room-taken (2 * n) (o .marks) (divides .whole .1));
+      start = rw (← kind-take n (o .marks) 0 some, ← reference-take n (o .marks) 0 some) (divides .start);
+      coordinates = has;
+      pairs = λ k l.
+          rw (← kind-take n (o .marks) (suc k) l, ← reference-take n (o .marks) (suc k) l)
+          (pair-written p (o .path) (vertexIn (take (2 * n) (o .marks))) n has k l _ _ (divides .pairs k l));
+      kinds = divides .kinds;
+      cuts = divides .cuts;
+      jumps = divides .jumps;
+      all = divides .all;
+      once = divides .once;
+    }

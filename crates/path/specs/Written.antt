@@ -42,7 +42,7 @@ pub record WrittenBackStep (path : List Float) (k r : ℕ) : Type 0 where
   pub from : at path k ≡ at path (suc r)
   pub to : at path (suc k) ≡ at path r
 
--- v gives each path point's vertex
+-- by coordinates, but for the contour that it enters: v gives each path point's vertex
 pub record WrittenJump (p : Plate) (path : List Float) (v : ℕ → ℕ) (k r : ℕ) : Type 0 where
   pub landing : at path (suc k) ≡ at (p .points) r
   pub fresh : (c : Contour) × IsContour p c × Of c r × ((i : ℕ) → i ≤ k → NotOf c (v i))
@@ -140,15 +140,15 @@ written-statement p path ms w d c e h =
     let n = c .points in
     let divides = path-statement p path ms w d c e h .3 in
     let some : 0 < n = omega (arith, divides .all) in
-    let has : (i : ℕ) → i < n → at (o .path) i ≡ at (p .points) (vertexIn (take (2 * n) (o .marks)) i) =
-    λ i x. sym (at-take n (o .path) i x) ∙ divides .coordinates i x in
+    let v = vertexIn (take (2 * n) (o .marks)) in
+    let has : (i : ℕ) → i < n → at (o .path) i ≡ at (p .points) (v i) = λ i x. sym (at-take n (o .path) i x) ∙ divides .coordinates i x in
     record {
       room = (room-taken (2 * n) (o .path) (divides .whole .0), room-taken (2 * n) (o .marks) (divides .whole .1));
       start = rw (← kind-take n (o .marks) 0 some, ← reference-take n (o .marks) 0 some) (divides .start);
       coordinates = has;
       pairs = λ k l.
           rw (← kind-take n (o .marks) (suc k) l, ← reference-take n (o .marks) (suc k) l)
-          (pair-written p (o .path) (vertexIn (take (2 * n) (o .marks))) n has k l _ _ (divides .pairs k l));
+          (pair-written p (o .path) v n has k l _ _ (divides .pairs k l));
       kinds = divides .kinds;
       cuts = divides .cuts;
       jumps = divides .jumps;

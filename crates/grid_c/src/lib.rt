@@ -177,7 +177,7 @@ fn query_all(
     let n = (points.len() / 2) as u32;
     for v in 0..n {
         let q = point_at(points, Vertex(v));
-        let answer = history::nearest(g, points, work, count, q);
+        let answer = nearest::nearest(g, points, work, count, q);
         places[v as usize] = place_number(answer);
         squared[v as usize] = squared_number(answer);
     }

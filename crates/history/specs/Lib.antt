@@ -1,4 +1,3 @@
 pub mod History
-pub mod Squares
 pub mod Points
 pub mod Appending

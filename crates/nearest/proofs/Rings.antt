@@ -22,10 +22,10 @@ use Rattle.path.specs.Rings.{scan-next}
 use Rattle.chains.specs.Hits.{miss, hit, better, better-miss}
 use Rattle.chains.specs.Best.{bestOf, same-test, best-in, best-out, best-none}
 use Rattle.chains.specs.Sweeps.{level, upward, level-is, is-level, sweep-start, sweep-turn, sweep-done}
 use Rattle.history.specs.History.{points, Ready}
-use Rattle.history.proofs.Rank.{rank}
-use Rattle.history.proofs.Answers.{Squared, SquaredBest, ranked, distance-squared, nearer-ranked, ranked-one}
-use Rattle.history.proofs.Border.{onRing}
+use Rattle.nearest.proofs.Rank.{rank}
+use Rattle.nearest.proofs.Answers.{Squared, SquaredBest, ranked, distance-squared, nearer-ranked, ranked-one}
+use Rattle.nearest.proofs.Border.{onRing}
 
 -- a path place's key: its squared distance from q, counted
 unfoldable pub keyAt : List Float → Point → ℕ → ℕ

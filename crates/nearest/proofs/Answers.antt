@@ -16,7 +16,7 @@ use Rattle.rules.specs.declared.Nearest.the-variants.{Found, Nothing}
 use Rattle.path.specs.FloatOrder.{Plus}
 use Rattle.path.specs.FiniteDistances.{OnPlate, distance-plus}
 use Rattle.chains.specs.Hits.{Hit, miss, hit, beats, better}
-use Rattle.history.proofs.Rank.{rank, lt-rank, eq-rank, rank-one}
+use Rattle.nearest.proofs.Rank.{rank, lt-rank, eq-rank, rank-one}
 
 -- a squared distance: finite, its sign plus, and an f64
 pub record Squared (x : Float) : Type 0 where

@@ -1,9 +1,9 @@
--- `history::is_past_best` meets its contract. Assumes nothing.
+-- `rings::is_past_best` meets its contract. Assumes nothing.
 use borrow.Author.Tests.{le-leb, lt-leb}
 use Rattle.rules.specs.GridAndNearest.{beyond}
 use borrow.Author.Needs.{needs}
-use Rattle.history.proofs.is_past_best.Statement.{statement}
-use Rattle.history.proofs.is_past_best.Tie as tie
+use Rattle.rings.proofs.is_past_best.Statement.{statement}
+use Rattle.rings.proofs.is_past_best.Tie as tie
 
 enum-known-best : tie.Need-enum-known-best
 enum-known-best c = search needs

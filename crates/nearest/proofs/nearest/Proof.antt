@@ -1,13 +1,13 @@
--- `history::nearest` meets its contract. Assumes nothing.
+-- `nearest::nearest` meets its contract. Assumes nothing.
 use mathlib.Core.Path.{sym, _∙_}
 use Prim.Native.Nat.{_+_, _-_, _<_}
 use native.Mathlib.Omega.{arith}
 use borrow.Author.Needs.{needs}
-use Rattle.history.specs.Squares.{squareOf}
-use Rattle.history.proofs.Border.{step-pos, step-most}
-use Rattle.history.proofs.Loops.{InCell, InRow, InRing, InSearch, same-square, cell-start, cell-falls, cell-next, row-start, row-next, ring-start, ring-next, search-start, search-next, search-stop, search-done}
-use Rattle.history.proofs.nearest.Statement.{statement}
-use Rattle.history.proofs.nearest.Tie as tie
+use Rattle.rings.specs.Squares.{squareOf}
+use Rattle.nearest.proofs.Border.{step-pos, step-most}
+use Rattle.nearest.proofs.Loops.{InCell, InRow, InRing, InSearch, same-square, cell-start, cell-falls, cell-next, row-start, row-next, ring-start, ring-next, search-start, search-next, search-stop, search-done}
+use Rattle.nearest.proofs.nearest.Statement.{statement}
+use Rattle.nearest.proofs.nearest.Tie as tie
 
 abbrev Inv-loop3 : tie.InvT-loop3
 Inv-loop3 g path work count q best₀ c rings ring s row-end row step col cell cursor₀ best cursor =

@@ -5,7 +5,7 @@ use lib.Dec.{eqb}
 use Rattle.rules.specs.Tools.{pick}
 use Rattle.rules.specs.GridAndNearest as rules
 use Rattle.rules.specs.declared.SpatialGrid.{SpatialGrid}
-use Rattle.history.specs.declared.square.Square.{Square}
+use Rattle.rings.specs.declared.Square.{Square}
 
 unfoldable pub squareOf : Square → rules.Square
 squareOf s = record { firstCol = s .«first_col»; lastCol = s .«last_col»; firstRow = s .«first_row»; lastRow = s .«last_row» }

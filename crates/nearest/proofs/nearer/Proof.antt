@@ -1,12 +1,12 @@
--- `history::nearer` meets its contract. Assumes nothing.
+-- `nearest::nearer` meets its contract. Assumes nothing.
 use mathlib.Core.Path.{sym, _∙_}
 use borrow.Author.Tests.{lt-ltb, le-ltb}
 use Rattle.rules.specs.GridAndNearest.{wins, found}
 use Rattle.point.specs.Bound.{beyond-above, above-not-below, above-not-equal}
-use Rattle.history.proofs.Winning.{first-found, passed-over, wins-over}
+use Rattle.nearest.proofs.Winning.{first-found, passed-over, wins-over}
 use borrow.Author.Needs.{needs}
-use Rattle.history.proofs.nearer.Statement.{statement}
-use Rattle.history.proofs.nearer.Tie as tie
+use Rattle.nearest.proofs.nearer.Statement.{statement}
+use Rattle.nearest.proofs.nearer.Tie as tie
 
 enum-known-best : tie.Need-enum-known-best
 enum-known-best c = search needs

@@ -1,10 +1,10 @@
--- `history::square::column_step` meets its contract. Assumes nothing.
+-- `rings::column_step` meets its contract. Assumes nothing.
 use borrow.Author.Tests.{eq-eqb, ne-eqb}
 use Rattle.rules.specs.Tools.{pick}
-use Rattle.history.specs.Squares.{squareOf, columnStep}
+use Rattle.rings.specs.Squares.{squareOf, columnStep}
 use borrow.Author.Needs.{needs}
-use Rattle.history.proofs.square.column_step.Statement.{statement}
-use Rattle.history.proofs.square.column_step.Tie as tie
+use Rattle.rings.proofs.column_step.Statement.{statement}
+use Rattle.rings.proofs.column_step.Tie as tie
 
 returns : tie.Need-returns
 unfolding squareOf columnStep pick

@@ -1,10 +1,11 @@
-// The square of a radius around a cell, clipped to the grid, and how its border is passed along a row.
+// The rings of cells around a cell: a ring's square, clipped to the grid, how its border is passed along a row, and its bound.
 ghost use mathlib.Core.Path.{_≡_};
 ghost use Prim.Native.Nat.{_-_, _≤_, _<_, min, max};
 ghost use Rattle.rules.specs.GridAndNearest as rules-nearest;
 ghost use Rattle.grid.specs.Sane.{Sane};
-ghost use Rattle.history.specs.Squares.{squareOf, Inside, columnStep};
+ghost use Rattle.rings.specs.Squares.{squareOf, Inside, columnStep};
 use grid::Cell;
+use rules::Nearest;
 use rules::SpatialGrid;
 
 pub struct Square {
@@ -57,4 +58,26 @@ pub fn column_step(s: Square, row: u32) -> u32
         return 1;
     }
     most(s.last_col - s.first_col, 1)
+}
+
+// A ring's bound: the squared length of ring - 1 cells.
+fn ring_bound(g: SpatialGrid, ring: u32) -> f64
+    requires { ⌜ 2 ≤ ring ⌝ }
+    ensures { λ r. ⌜ r ≡ rules-nearest.bound g ring ⌝ }
+{
+    let distance = ((ring - 1) as f64) * g.cell_size;
+    distance * distance
+}
+
+// Whether the scan is left before a ring: from ring 2 on, where the bound is strictly above the best.
+pub fn is_past_best(g: SpatialGrid, ring: u32, best: Nearest) -> bool
+    ensures { λ r. ⌜ r ≡ rules-nearest.beyond g ring best ⌝ }
+{
+    let Nearest::Found(_, least) = best else {
+        return false;
+    };
+    if ring < 2 {
+        return false;
+    }
+    least < ring_bound(g, ring)
 }

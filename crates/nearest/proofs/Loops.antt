@@ -23,11 +23,11 @@ use Rattle.chains.specs.Walks.{Walking, walk-start, walk-falls, walk-next, walk
 use Rattle.chains.specs.Sweeps.{Sweeping, sweep-start, sweep-turn, sweep-done}
 use Rattle.grid.specs.Sane.{Sane}
 use Rattle.grid.specs.Numbers.{number-below}
 use Rattle.history.specs.History.{points, headIn, linkIn, Ready}
-use Rattle.history.specs.Squares.{columnStep}
-use Rattle.history.proofs.Answers.{SquaredBest, ranked, nearer-ranked}
-use Rattle.history.proofs.Border.{colAt, rowAt, onRing, onRow, ring-rows, row-cols, row-cell, step-pos, Stands, stands-on-side, stands-next, step-gap}
-use Rattle.history.proofs.Rings.{keyAt, place-squared, ring-is, rings-turn, rings-stop, rings-done}
+use Rattle.rings.specs.Squares.{columnStep}
+use Rattle.nearest.proofs.Answers.{SquaredBest, ranked, nearer-ranked}
+use Rattle.nearest.proofs.Border.{colAt, rowAt, onRing, onRow, ring-rows, row-cols, row-cell, step-pos, Stands, stands-on-side, stands-next, step-gap}
+use Rattle.nearest.proofs.Rings.{keyAt, place-squared, ring-is, rings-turn, rings-stop, rings-done}
 
 -- ---- what holds; `before` is the answer with which the loop was begun
 

@@ -1,9 +1,9 @@
--- `history::ring_bound` meets its contract. Assumes nothing.
+-- `rings::ring_bound` meets its contract. Assumes nothing.
 use mathlib.Core.Path.{refl}
 use Rattle.rules.specs.GridAndNearest.{bound}
 use borrow.Author.Needs.{needs}
-use Rattle.history.proofs.ring_bound.Statement.{statement}
-use Rattle.history.proofs.ring_bound.Tie as tie
+use Rattle.rings.proofs.ring_bound.Statement.{statement}
+use Rattle.rings.proofs.ring_bound.Tie as tie
 
 sub-distance : tie.Need-sub-distance
 sub-distance c = search needs

@@ -1,10 +1,10 @@
--- `history::square::square_of` meets its contract. Assumes nothing.
+-- `rings::square_of` meets its contract. Assumes nothing.
 use native.Mathlib.Omega.{arith}
 use Rattle.rules.specs.GridAndNearest.{square}
-use Rattle.history.specs.Squares.{squareOf}
+use Rattle.rings.specs.Squares.{squareOf}
 use borrow.Author.Needs.{needs}
-use Rattle.history.proofs.square.square_of.Statement.{statement}
-use Rattle.history.proofs.square.square_of.Tie as tie
+use Rattle.rings.proofs.square_of.Statement.{statement}
+use Rattle.rings.proofs.square_of.Tie as tie
 
 minus-requires : tie.Need-minus-requires
 minus-requires c κs = search needs

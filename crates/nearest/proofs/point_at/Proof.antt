@@ -1,9 +1,9 @@
--- `history::point_at` meets its contract. Assumes nothing.
+-- `nearest::point_at` meets its contract. Assumes nothing.
 use mathlib.Core.Path.{refl}
 use Rattle.rules.specs.HandedOver.{at}
 use borrow.Author.Needs.{needs}
-use Rattle.history.proofs.point_at.Statement.{statement}
-use Rattle.history.proofs.point_at.Tie as tie
+use Rattle.nearest.proofs.point_at.Statement.{statement}
+use Rattle.nearest.proofs.point_at.Tie as tie
 
 cast-i : tie.Need-cast-i
 cast-i c = search needs

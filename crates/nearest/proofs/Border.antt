@@ -22,7 +22,7 @@ use Rattle.chains.specs.Cells.{inCell, in-cell, in-cell-is}
 use Rattle.chains.specs.Sweeps.{level, level-is, is-level}
 use Rattle.grid.specs.Sane.{Sane}
 use Rattle.grid.specs.Numbers.{cell-inside}
-use Rattle.history.specs.Squares.{columnStep}
+use Rattle.rings.specs.Squares.{columnStep}
 
 -- ---- tests of path places
 

@@ -1,10 +1,12 @@
 -- `twillharbor::twillharbor_start` meets its contract. Assumes nothing.
 use mathlib.Core.Path.{_≡_, refl, sym, ap, _∙_}
+use Prim.Native.Nat.{ℕ}
 use mir.Val.{boolByte}
 use Rattle.rules.specs.Tools.{pick}
 use Rattle.rules.specs.HandedOver.{startAnswer}
 use Rattle.plate.specs.Refused.{refused}
 use Rattle.twillharbor.specs.Results.{startResult}
+use Rattle.twillharbor.specs.declared.StartResult.{StartResult}
 use mathlib.Core.Bool.{Bool, true, false}
 use borrow.Author.Needs.{needs}
 use Rattle.twillharbor.proofs.twillharbor_start.Statement.{statement}
@@ -14,6 +16,10 @@ byte : (b : Bool) → boolByte b ≡ pick b 1 0
 unfolding pick
 byte true = refl
 byte false = refl
+
+-- contour k leads the path, in the sense with this number
+abbrev started : ℕ → ℕ → StartResult
+started k n = record { number = 0; place = 0; contour = k; reversed = n }
 
 strategy-of-requires : tie.Need-strategy-of-requires
 strategy-of-requires c κs = search needs
@@ -37,13 +43,16 @@ returns : tie.Need-returns
 unfolding startResult startAnswer
 returns c =
     let e = rw (c .before .before .before .before .strategy-of .ensures) at (c .before .before .before .start-call .ensures) in
-    rw (byte (c .before .answer .given .0 .1 .0)) (ap startResult (ap startAnswer (sym (c .before .answer .given .1)) ∙ e))
+    let a = ap startAnswer (c .before .answer .given .1) in
+    let s = c .before .answer .given .0 in
+    ap (started (s .0)) (byte (s .1 .0)) ∙ ap startResult (sym a ∙ e)
 
 returns-2 : tie.Need-returns-2
 unfolding startResult startAnswer
 returns-2 c =
     let e = rw (c .before .before .before .before .before .strategy-of .ensures) at (c .before .before .before .before .start-call .ensures) in
-    ap startResult (sym (refused _ _ _ (c .numbers-of .ensures)) ∙ ap startAnswer (sym (c .before .before .answer2 .given .1)) ∙ e)
+    let a = ap startAnswer (c .before .before .answer2 .given .1) in
+    ap startResult (sym (refused _ _ _ (c .numbers-of .ensures)) ∙ sym a ∙ e)
 
 pub twillharbor-start-spec : {M : Type 1} → statement M
 twillharbor-start-spec =

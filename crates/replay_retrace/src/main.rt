@@ -1,34 +1,27 @@
-// Replays the reference's recorded plates by the retrace call. Standard input holds them as words, sixteen hexadecimal digits and one
-// separator each: the number of rows, then the rows. A row has nine words (the number of coordinates, the number of lengths, width,
-// height, 1 for Inside or 0, the lengths of the path, marks, u32 work and f64 work slices), the coordinates, the lengths, the call's six
-// numbers, and the path and the marks slices as the call leaves them. Prints how many rows there were and how many differed.
-use twillharbor::RetraceResult;
+// Replays the reference's recorded plates by the retrace call. Standard input holds them as words (crate words): the number of rows, then
+// the rows. A row has nine words (the number of coordinates, the number of lengths, width, height, 1 for Inside or 0, the lengths of the
+// path, marks, u32 work and f64 work slices), the coordinates, the lengths, the call's six numbers, and the path and the marks slices as
+// the call leaves them. Prints how many rows there were and how many differed.
+ghost use Prim.Native.Nat.{_≤_};
 use twillharbor::twillharbor_retrace;
+use words::copy_floats;
+use words::copy_numbers;
+use words::ends_at;
 use words::floats_differ;
-use words::low;
-use words::next;
 use words::numbers_differ;
-use words::read_floats;
-use words::read_numbers;
+use words::word_at;
 
-// Whether the next six words, which are all read, are the call's numbers.
-fn numbers_agree(r: RetraceResult) -> bool {
-    let number = next();
-    let place = next();
-    let count = next();
-    let cuts = next();
-    let back_steps = next();
-    let jumps = next();
-    (r.number as u64) == number
-        && (r.place as u64) == place
-        && (r.points as u64) == count
-        && (r.cuts as u64) == cuts
-        && (r.back_steps as u64) == back_steps
-        && (r.jumps as u64) == jumps
-}
+// A text of as many bytes, or more, is no list.
+const ROOM: usize = 262144;
 
-// The call on a plate: the rest of the row is read.
+// As many words fit.
+const WORDS: usize = 15420;
+
+// The call on a plate: its answer stands at word i, the marks at word j.
 fn call_agrees(
+    text: &[u8],
+    i: usize,
+    j: usize,
     points: &[f64],
     lengths: &[u32],
     width: u32,
@@ -38,7 +31,9 @@ fn call_agrees(
     marks: &mut [u32],
     work: &mut [u32],
     distances: &mut [f64],
-) -> bool {
+) -> bool
+    requires { ⌜ i ≤ 15500 ⌝ }
+{
     let r = twillharbor_retrace(
         points,
         lengths,
@@ -50,109 +45,201 @@ fn call_agrees(
         work,
         distances,
     );
-    let agree = numbers_agree(r);
-    let path_differ = floats_differ(path);
-    let marks_differ = numbers_differ(marks);
-    agree && path_differ == 0 && marks_differ == 0
+    let numbers = [r.number, r.place, r.points, r.cuts, r.back_steps, r.jumps];
+    numbers_differ(text, i, &numbers) == 0
+        && floats_differ(text, i + 6, path) == 0
+        && numbers_differ(text, j, marks) == 0
 }
 
-// A row with a size above its limit is broken, and what follows it cannot be read.
-enum Row {
-    Agrees(bool),
-    Broken,
-}
-
-// The rest of a row: the coordinates and the lengths are read into the slices, and the call is lent a path whose every element is 100
-// and marks of 0xa5a5a5a5.
-fn rest_of_row(
-    points: &mut [f64],
-    lengths: &mut [u32],
+// The same with a path whose every element is 100 and marks of 0xa5a5a5a5.
+fn lent_agrees(
+    text: &[u8],
+    i: usize,
+    points: &[f64],
+    lengths: &[u32],
     width: u32,
     height: u32,
     inside: bool,
-    path: u64,
-    marks: u64,
-    work: u64,
-    distances: u64,
-) -> Row {
-    if 128 < path || 128 < marks || 16640 < work || 16 < distances {
-        return Row::Broken;
-    }
+    path: usize,
+    marks: usize,
+    work: usize,
+    distances: usize,
+) -> bool
+    requires { ⌜ i ≤ 15500 ⌝ }
+    requires { ⌜ path ≤ 128 ⌝ }
+    requires { ⌜ marks ≤ 128 ⌝ }
+    requires { ⌜ work ≤ 16640 ⌝ }
+    requires { ⌜ distances ≤ 16 ⌝ }
+{
     let mut lent_path = [100.0f64; 128];
     let mut lent_marks = [2779096485u32; 128];
     let mut lent_work = [7u32; 16640];
     let mut lent_distances = [9.0f64; 16];
-    read_floats(points);
-    read_numbers(lengths);
-    let agrees = call_agrees(
+    call_agrees(
+        text,
+        i,
+        i + 6 + path,
         points,
         lengths,
         width,
         height,
         inside,
-        &mut lent_path[..path as usize],
-        &mut lent_marks[..marks as usize],
-        &mut lent_work[..work as usize],
-        &mut lent_distances[..distances as usize],
-    );
-    Row::Agrees(agrees)
+        &mut lent_path[..path],
+        &mut lent_marks[..marks],
+        &mut lent_work[..work],
+        &mut lent_distances[..distances],
+    )
 }
 
-fn next_row() -> Row {
-    let coordinates = next();
-    let contours = next();
-    let width = next();
-    let height = next();
-    let inside = next();
-    let path = next();
-    let marks = next();
-    let work = next();
-    let distances = next();
-    if 4294967295 < width || 4294967295 < height || 1 < inside {
-        return Row::Broken;
-    }
-    if 40 < coordinates || 12 < contours {
-        return Row::Broken;
-    }
-    let mut points = [0.0f64; 40];
-    let mut lengths = [0u32; 12];
-    rest_of_row(
-        &mut points[..coordinates as usize],
-        &mut lengths[..contours as usize],
-        low(width),
-        low(height),
-        inside == 1,
+// The same, after the coordinates at word i and the lengths at word j were copied into the slices; the answers start at word k. A length
+// that is no u32 differs.
+fn plate_agrees(
+    text: &[u8],
+    i: usize,
+    j: usize,
+    k: usize,
+    points: &mut [f64],
+    lengths: &mut [u32],
+    width: u32,
+    height: u32,
+    inside: bool,
+    path: usize,
+    marks: usize,
+    work: usize,
+    distances: usize,
+) -> bool
+    requires { ⌜ k ≤ 15500 ⌝ }
+    requires { ⌜ path ≤ 128 ⌝ }
+    requires { ⌜ marks ≤ 128 ⌝ }
+    requires { ⌜ work ≤ 16640 ⌝ }
+    requires { ⌜ distances ≤ 16 ⌝ }
+{
+    copy_floats(text, i, points);
+    copy_numbers(text, j, lengths);
+    let fit = numbers_differ(text, j, lengths) == 0;
+    let agree = lent_agrees(
+        text,
+        k,
+        points,
+        lengths,
+        width,
+        height,
+        inside,
         path,
         marks,
         work,
         distances,
+    );
+    fit && agree
+}
+
+// Whether the row agrees, and the word behind it. A row with a size above its limit is broken, and what follows it cannot be read.
+enum Row {
+    Read(bool, usize),
+    Broken,
+}
+
+// A row whose coordinates start at word i.
+fn sized_row(
+    text: &[u8],
+    i: usize,
+    n: usize,
+    m: usize,
+    width: u32,
+    height: u32,
+    inside: bool,
+    path: usize,
+    marks: usize,
+    work: usize,
+    distances: usize,
+) -> Row
+    requires { ⌜ i ≤ 15430 ⌝ }
+{
+    if 40 < n || 12 < m || 128 < path || 128 < marks || 16640 < work || 16 < distances {
+        return Row::Broken;
+    }
+    let j = i + n;
+    let k = j + m;
+    let end = k + path + marks + 6;
+    let mut points = [0.0f64; 40];
+    let mut lengths = [0u32; 12];
+    let agrees = plate_agrees(
+        text,
+        i,
+        j,
+        k,
+        &mut points[..n],
+        &mut lengths[..m],
+        width,
+        height,
+        inside,
+        path,
+        marks,
+        work,
+        distances,
+    );
+    Row::Read(agrees, end)
+}
+
+fn size(n: u32) -> usize {
+    n as usize
+}
+
+// The row at word i.
+fn row_at(text: &[u8], i: usize) -> Row {
+    let mut sizes = [0u32; 9];
+    copy_numbers(text, i, &mut sizes);
+    if WORDS < i || numbers_differ(text, i, &sizes) != 0 || 1 < sizes[4] {
+        return Row::Broken;
+    }
+    sized_row(
+        text,
+        i + 9,
+        size(sizes[0]),
+        size(sizes[1]),
+        sizes[2],
+        sizes[3],
+        sizes[4] == 1,
+        size(sizes[5]),
+        size(sizes[6]),
+        size(sizes[7]),
+        size(sizes[8]),
     )
 }
 
-// How many of the next rows differ. A broken row counts as one that differs, and is the last that is read.
-fn replay(rows: u64) -> u64 {
+// How many of the rows differ. A broken row counts as one that differs, and is the last that is read; a text that does not end with the
+// last row has one more that differs.
+fn replay(text: &[u8], rows: u64) -> u64
+    requires { ⌜ rows ≤ 15420 ⌝ }
+{
     let mut differ: u64 = 0;
-    let mut i: u64 = 0;
-    while i < rows {
-        let row = next_row();
-        let Row::Agrees(agrees) = row else {
+    let mut i: usize = 1;
+    for k in 0..rows {
+        let row = row_at(text, i);
+        let Row::Read(agrees, end) = row else {
             return differ + 1;
         };
         if !agrees {
             differ += 1;
         }
-        i += 1;
+        i = end;
     }
-    differ
+    if ends_at(text, i) {
+        return differ;
+    }
+    differ + 1
 }
 
 fn main() {
-    let rows = next();
-    if 1000000 < rows {
+    let mut bytes = [0u8; ROOM];
+    let n = io::read_full(0, &mut bytes);
+    let text = &bytes[..n];
+    let rows = word_at(text, 0);
+    if n == ROOM || 15420 < rows {
         io::write_all(1, b"no list\n");
         return;
     }
-    let differ = replay(rows);
+    let differ = replay(text, rows);
     io::print_decimal(1, rows);
     io::write_all(1, b" rows, ");
     io::print_decimal(1, differ);

@@ -1,1 +1,3 @@
 pub mod Patterns
+pub mod Spelling
+pub mod Places

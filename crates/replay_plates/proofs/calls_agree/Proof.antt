@@ -9,6 +9,9 @@ use Rattle.replay_plates.proofs.calls_agree.Tie as tie
 start-agrees-requires : tie.Need-start-agrees-requires
 start-agrees-requires c κs = search needs
 
+add-order-agrees : tie.Need-add-order-agrees
+add-order-agrees c = search needs
+
 array-borrow-prefix-entries : tie.Need-array-borrow-prefix-entries
 array-borrow-prefix-entries c = search needs
 
@@ -23,6 +26,12 @@ slice-aggregate-order-agrees-2 c = sym (length-take-le _ _ (omega arith))
 
 order-agrees-requires : tie.Need-order-agrees-requires
 order-agrees-requires c κs = search needs
+
+add-straight-agrees : tie.Need-add-straight-agrees
+add-straight-agrees c = search needs
+
+add-straight-agrees-2 : tie.Need-add-straight-agrees-2
+add-straight-agrees-2 c = search needs
 
 array-borrow-prefix-places : tie.Need-array-borrow-prefix-places
 array-borrow-prefix-places c = search needs
@@ -50,11 +59,14 @@ calls-agree-spec =
     tie.close
     (tie.spec
     start-agrees-requires
+    add-order-agrees
     array-borrow-prefix-entries
     slice-aggregate-order-agrees
     array-borrow-prefix-order-work
     slice-aggregate-order-agrees-2
     order-agrees-requires
+    add-straight-agrees
+    add-straight-agrees-2
     array-borrow-prefix-places
     slice-aggregate-straight-agrees
     array-borrow-prefix-straight-work

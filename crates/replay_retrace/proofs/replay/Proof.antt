@@ -7,16 +7,16 @@ use Rattle.replay_retrace.proofs.replay.Statement.{statement}
 use Rattle.replay_retrace.proofs.replay.Tie as tie
 
 abbrev Inv-loop : tie.InvT-loop
-Inv-loop rows differ₀ i₀ differ i = (i ≤ rows) × (differ ≤ i)
+Inv-loop text rows differ₀ i₀ k₀ differ i k = (k ≤ rows) × (differ ≤ k)
 
 abbrev μ-loop : tie.MeasureT-loop
-μ-loop rows differ₀ i₀ differ i = rows - i
+μ-loop text rows differ₀ i₀ k₀ differ i k = rows - k
 
 loop-holds : tie.Need-loop-holds Inv-loop μ-loop
 loop-holds c = search needs
 
-next-row-requires : tie.Need-next-row-requires Inv-loop μ-loop
-next-row-requires c κs = search needs
+row-at-requires : tie.Need-row-at-requires Inv-loop μ-loop
+row-at-requires c κs = search needs
 
 enum-known-row : tie.Need-enum-known-row Inv-loop μ-loop
 enum-known-row c = search needs
@@ -33,8 +33,8 @@ returns c = search needs
 add-differ : tie.Need-add-differ Inv-loop μ-loop
 add-differ c = search needs
 
-add-i : tie.Need-add-i Inv-loop μ-loop
-add-i c = search needs
+add-k : tie.Need-add-k Inv-loop μ-loop
+add-k c = search needs
 
 loop-less : tie.Need-loop-less Inv-loop μ-loop
 loop-less c = search needs
@@ -42,8 +42,17 @@ loop-less c = search needs
 loop-again : tie.Need-loop-again Inv-loop μ-loop
 loop-again c = ⊎-elim (λ w. (search needs, omega arith)) (λ w. (search needs, omega arith)) (c .if1 .came)
 
+ends-at-requires : tie.Need-ends-at-requires Inv-loop μ-loop
+ends-at-requires c κs = search needs
+
 returns-2 : tie.Need-returns-2 Inv-loop μ-loop
 returns-2 c = search needs
+
+add-result-2 : tie.Need-add-result-2 Inv-loop μ-loop
+add-result-2 c = search needs
+
+returns-3 : tie.Need-returns-3 Inv-loop μ-loop
+returns-3 c = search needs
 
 pub replay-spec : {M : Type 1} → statement M
 replay-spec =
@@ -52,13 +61,16 @@ replay-spec =
     Inv-loop
     μ-loop
     loop-holds
-    next-row-requires
+    row-at-requires
     enum-known-row
     enum-told
     add-result
     returns
     add-differ
-    add-i
+    add-k
     loop-less
     loop-again
-    returns-2)
+    ends-at-requires
+    returns-2
+    add-result-2
+    returns-3)

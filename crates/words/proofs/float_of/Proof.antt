@@ -1,11 +1,11 @@
--- `words::float_of` is safe and ends. Assumes nothing.
-use Rattle.words.proofs.Patterns.{not-nan}
+-- `words::float_of` gives the float of a bit pattern. Assumes nothing.
+use Rattle.words.proofs.Patterns.{nan-pattern, not-nan}
 use borrow.Author.Needs.{needs}
 use Rattle.words.proofs.float_of.Statement.{statement}
 use Rattle.words.proofs.float_of.Tie as tie
 
 returns : tie.Need-returns
-returns c = search needs
+returns c = nan-pattern _ (c .if1 .taken)
 
 float-from-bits-result : tie.Need-float-from-bits-result
 float-from-bits-result c = not-nan _ (c .if1 .left)

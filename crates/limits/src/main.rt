@@ -1,6 +1,10 @@
 // Boundary runs of the table of refusals (document 01): for each case one line with its name, its number and its place, and the entries or
-// points where the call counts them.
+// points where the call counts them. A line of the retrace call has the lengths of the path, marks, u32 work and f64 work slices, and
+// number, place, points, cuts, back-steps and jumps.
+ghost use Prim.Native.Nat.{_≤_};
+use twillharbor::RetraceResult;
 use twillharbor::twillharbor_order;
+use twillharbor::twillharbor_retrace;
 use twillharbor::twillharbor_start;
 use twillharbor::twillharbor_straight;
 
@@ -193,6 +197,154 @@ fn straight_work_short() {
     show_count(r.number, r.place, r.points);
 }
 
+fn put(x: u64) {
+    io::write_all(1, b" ");
+    io::print_decimal(1, x);
+}
+
+fn show_retrace(r: RetraceResult) {
+    io::write_all(1, b":");
+    put(r.number as u64);
+    put(r.place as u64);
+    put(r.points as u64);
+    put(r.cuts as u64);
+    put(r.back_steps as u64);
+    put(r.jumps as u64);
+    io::write_all(1, b"\n");
+}
+
+fn show_lengths(name: &[u8], path: usize, marks: usize, work: usize, distances: usize) {
+    io::write_all(1, b"retrace, ");
+    io::write_all(1, name);
+    io::write_all(1, b", slices of");
+    put(path as u64);
+    put(marks as u64);
+    put(work as u64);
+    put(distances as u64);
+}
+
+// The retrace call, Inside, on a plate of no width and height, with slices of these lengths.
+fn retrace(
+    name: &[u8],
+    points: &[f64],
+    lengths: &[u32],
+    path: usize,
+    marks: usize,
+    work: usize,
+    distances: usize,
+)
+    requires { ⌜ path ≤ 131072 ⌝ }
+    requires { ⌜ marks ≤ 131072 ⌝ }
+    requires { ⌜ work ≤ 344072 ⌝ }
+    requires { ⌜ distances ≤ 4097 ⌝ }
+{
+    let mut lent_path = [0.0f64; 131072];
+    let mut lent_marks = [0u32; 131072];
+    let mut lent_work = [0u32; 344072];
+    let mut lent_distances = [0.0f64; 4097];
+    let r = twillharbor_retrace(
+        points,
+        lengths,
+        0,
+        0,
+        true,
+        &mut lent_path[..path],
+        &mut lent_marks[..marks],
+        &mut lent_work[..work],
+        &mut lent_distances[..distances],
+    );
+    show_lengths(name, path, marks, work, distances);
+    show_retrace(r);
+}
+
+fn line_retrace(name: &[u8], ax: f64, by: f64) {
+    let points = [ax, 0.0, 0.0, by];
+    let lengths = [2u32; 1];
+    retrace(name, &points, &lengths, 4, 4, 16402, 1);
+}
+
+fn coordinates_retrace() {
+    let above = next_above();
+    let below = next_below();
+    line_retrace(b"-1000000 at 0", -1000000.0, 0.0);
+    line_retrace(b"1000000 at 3", 0.0, 1000000.0);
+    line_retrace(b"next below -1000000 at 0", below, 0.0);
+    line_retrace(b"next above 1000000 at 3", 0.0, above);
+}
+
+// Points (0, 0), (1, 0), (2, 0) and so on, of a slice of zeros.
+fn along(xs: &mut [f64]) {
+    let mut x = 0.0f64;
+    let mut i = 0;
+    while i < xs.len() {
+        xs[i] = x;
+        x = x + 1.0;
+        i += 2;
+    }
+}
+
+// C = 0: u32 work of 8 x 4,096 + 16,384 is enough.
+fn empty_contours_retrace(name: &[u8], points: &[f64], lengths: &[u32]) {
+    retrace(name, points, lengths, 0, 0, 49152, 4096);
+    retrace(name, points, lengths, 0, 0, 49151, 4096);
+    retrace(name, points, lengths, 0, 0, 49152, 4095);
+    retrace(name, points, lengths, 0, 0, 49151, 4095);
+}
+
+// The result has 4,096 points: C = 4,096 is enough, with u32 work of 4,096 + 4 x 4,096 + 8 x 4,096 + 16,384.
+fn single_points_retrace(name: &[u8], points: &[f64], lengths: &[u32]) {
+    retrace(name, points, lengths, 8192, 8192, 69632, 4096);
+    retrace(name, points, lengths, 8192, 8192, 69631, 4096);
+    retrace(name, points, lengths, 8192, 8192, 69632, 4095);
+    retrace(name, points, lengths, 8192, 8192, 69631, 4095);
+    retrace(name, points, lengths, 8191, 8192, 69631, 4096);
+    retrace(name, points, lengths, 8192, 8191, 69631, 4096);
+    retrace(name, points, lengths, 8191, 8192, 69630, 4096);
+}
+
+fn most_contours_retrace() {
+    let none = [0.0f64; 0];
+    let empty = [0u32; 4096];
+    empty_contours_retrace(b"4096 empty contours", &none, &empty);
+    let more = [0u32; 4097];
+    retrace(b"4097 empty contours", &none, &more, 0, 0, 49160, 4097);
+    let mut points = [0.0f64; 8192];
+    along(&mut points);
+    let single = [1u32; 4096];
+    single_points_retrace(b"4096 contours of a point", &points, &single);
+}
+
+// The result has 65,536 points: C = 65,536 is enough, with u32 work of 65,536 + 4 x 65,536 + 8 + 16,384.
+fn one_contour_retrace(name: &[u8], points: &[f64], lengths: &[u32]) {
+    retrace(name, points, lengths, 131072, 131072, 344072, 1);
+    retrace(name, points, lengths, 131072, 131072, 344071, 1);
+    retrace(name, points, lengths, 131072, 131072, 344072, 0);
+    retrace(name, points, lengths, 131072, 131072, 344071, 0);
+    retrace(name, points, lengths, 131070, 131072, 344071, 1);
+    retrace(name, points, lengths, 131072, 131070, 344071, 1);
+}
+
+fn most_points_retrace() {
+    let mut points = [0.0f64; 131072];
+    along(&mut points);
+    let lengths = [65536u32; 1];
+    one_contour_retrace(b"65536 points", &points, &lengths);
+}
+
+fn too_many_points_retrace() {
+    let points = [0.0f64; 131074];
+    let lengths = [65537u32; 1];
+    retrace(
+        b"65537 points",
+        &points,
+        &lengths,
+        131072,
+        131072,
+        344072,
+        1,
+    );
+}
+
 fn main() {
     coordinates();
     most_contours_start();
@@ -209,4 +361,8 @@ fn main() {
     no_room();
     order_work_short();
     straight_work_short();
+    coordinates_retrace();
+    most_contours_retrace();
+    most_points_retrace();
+    too_many_points_retrace();
 }

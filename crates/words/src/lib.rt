@@ -82,13 +82,6 @@ fn float_of(bits: u64) -> f64
     f64::from_bits(bits)
 }
 
-// The low half of a word.
-fn low(w: u64) -> u32
-    ensures { λ r. ⌜ r ≡ lowHalf w ⌝ }
-{
-    (w % 4294967296) as u32
-}
-
 // Whether x is a number, or an infinity, with this pattern.
 fn has_bits(x: f64, bits: u64) -> bool
     ensures { λ r. ⌜ r ≡ hasBits x bits ⌝ }
@@ -125,7 +118,8 @@ pub fn copy_numbers(text: &[u8], i: usize, xs: &mut [u32])
     let start = within(text, i);
     let mut k = 0;
     while k < xs.len() {
-        xs[k] = low(word_at(text, start + k));
+        let w = word_at(text, start + k);
+        xs[k] = (w % 4294967296) as u32;
         k += 1;
     }
 }

@@ -1,4 +1,5 @@
 -- `words::copy_numbers` writes each element. Assumes nothing.
+use mathlib.Core.Path.{refl}
 use Prim.Native.Nat.{_-_}
 use native.Mathlib.Omega.{arith}
 use lib.ListN.{length}
@@ -26,23 +27,23 @@ add-word-at c = search needs
 word-at-requires : tie.Need-word-at-requires Inv-loop μ-loop
 word-at-requires c κs = search needs
 
-low-requires : tie.Need-low-requires Inv-loop μ-loop
-low-requires c κs = search needs
+cast-xs : tie.Need-cast-xs Inv-loop μ-loop
+cast-xs c = search needs
 
 mul-xs : tie.Need-mul-xs Inv-loop μ-loop
-mul-xs c = omega (arith, copied-length lowHalf _ _ _ _ _ (c .before .before .before .loop .inv))
+mul-xs c = omega (arith, copied-length lowHalf _ _ _ _ _ (c .before .before .loop .inv))
 
 slice-write-xs : tie.Need-slice-write-xs Inv-loop μ-loop
-slice-write-xs c = omega (arith, copied-length lowHalf _ _ _ _ _ (c .before .before .before .loop .inv))
+slice-write-xs c = omega (arith, copied-length lowHalf _ _ _ _ _ (c .before .before .loop .inv))
 
 add-k : tie.Need-add-k Inv-loop μ-loop
-add-k c = omega (arith, copied-length lowHalf _ _ _ _ _ (c .before .before .before .loop .inv))
+add-k c = omega (arith, copied-length lowHalf _ _ _ _ _ (c .before .before .loop .inv))
 
 loop-less : tie.Need-loop-less Inv-loop μ-loop
-loop-less c = omega (arith, copied-length lowHalf _ _ _ _ _ (c .before .before .before .loop .inv))
+loop-less c = omega (arith, copied-length lowHalf _ _ _ _ _ (c .before .before .loop .inv))
 
 loop-again : tie.Need-loop-again Inv-loop μ-loop
-loop-again c = copied-more lowHalf _ _ _ 0 _ _ _ _ (c .before .before .before .loop .inv) (omega (arith, copied-length lowHalf _ _ _ _ _ (c .before .before .before .loop .inv))) (c .before .word-at .ensures) (c .low .ensures)
+loop-again c = copied-more lowHalf _ _ _ 0 _ _ _ _ (c .before .before .loop .inv) (omega (arith, copied-length lowHalf _ _ _ _ _ (c .before .before .loop .inv))) (c .word-at .ensures) refl
 
 same-length : tie.Need-same-length Inv-loop μ-loop
 same-length c = copied-length lowHalf _ _ _ _ _ (c .before .loop .inv)
@@ -60,7 +61,7 @@ copy-numbers-spec =
     loop-holds
     add-word-at
     word-at-requires
-    low-requires
+    cast-xs
     mul-xs
     slice-write-xs
     add-k

@@ -10,9 +10,11 @@ use Rattle.rules.specs.HandedOver.{at, Answer, gives, refuses, checked, over}
 use Rattle.rules.specs.SamplesAndCache.{askPath}
 use Rattle.rules.specs.declared.Nearest.{Nearest}
 use Rattle.rules.specs.declared.Nearest.the-variants.{Found, Nothing}
+use Rattle.rules.specs.declared.Point.{Point}
 use Rattle.rules.specs.declared.SpatialGrid.{SpatialGrid}
 use Rattle.history.specs.History.{points}
 use Rattle.grid_c.specs.declared.GridResult.{GridResult}
+use Rattle.grid_c.specs.declared.CenterResult.{CenterResult}
 
 -- P where refusals 1 to 4 let the plate pass, else 0
 unfoldable pub given : Answer ℕ → ℕ
@@ -41,6 +43,11 @@ zero64 = fin false 0 (pos 0)
 
 unfoldable pub noGrid : GridResult
 noGrid = record { «cell_size» = zero64; «inv_cell_size» = zero64; «origin_x» = zero64; «origin_y» = zero64; cols = 0; rows = 0 }
+
+-- ---- the centre
+
+unfoldable pub centerResult : Point → CenterResult
+centerResult p = record { x = p .x; y = p .y }
 
 -- ---- slices
 

@@ -7,6 +7,7 @@ ghost use lib.Dec.{ltb};
 ghost use lib.ListN.{length};
 ghost use Rattle.rules.specs.Tools.{pick};
 ghost use Rattle.rules.specs.HandedOver.{at};
+ghost use Rattle.rules.specs.Start.{centre};
 ghost use Rattle.rules.specs.GridAndNearest.{box, gridOf};
 ghost use Rattle.rules.specs.SamplesAndCache.{cellAt};
 ghost use Rattle.path.specs.Lists.{All};
@@ -16,7 +17,7 @@ ghost use Rattle.layout.specs.Parts.{KeptFrom};
 ghost use Rattle.grid.specs.Sane.{Sane};
 ghost use Rattle.samples.specs.Owners.{MarkedAll};
 ghost use Rattle.history.specs.History.{Ready};
-ghost use Rattle.grid_c.specs.Results.{accepted, gridResult, noGrid, hasRoom, written, placeNumber, squaredNumber, ask, hasQueryRoom};
+ghost use Rattle.grid_c.specs.Results.{accepted, gridResult, noGrid, centerResult, hasRoom, written, placeNumber, squaredNumber, ask, hasQueryRoom};
 use grid::cell_number;
 use grid::cell_of;
 use grid::polyline_bounding_box;
@@ -27,6 +28,7 @@ use rules::PathPlace;
 use rules::SpatialGrid;
 use rules::Vertex;
 use samples::mark_samples;
+use start::image_center;
 use start::point_at;
 
 // The number of points of a plate that refusals 1 to 4 let pass, else 0.
@@ -92,6 +94,21 @@ pub extern "C" fn twillharbor_grid_of(points: &[f64], lengths: &[u32]) -> GridRe
         cols: 0,
         rows: 0,
     }
+}
+
+#[repr(C)]
+pub struct CenterResult {
+    pub x: f64,
+    pub y: f64,
+}
+
+// The centre that the start is chosen by.
+#[no_mangle]
+pub extern "C" fn twillharbor_grid_center(width: u32, height: u32) -> CenterResult
+    ensures { λ r. ⌜ r ≡ centerResult (centre width height) ⌝ }
+{
+    let p = image_center(width, height);
+    CenterResult { x: p.x, y: p.y }
 }
 
 // Writes the number of the cell of each of n vertices.

@@ -3,6 +3,7 @@
 //! Each run is made from a seed alone, whatever the number of threads. It ends with
 //! status 1 where an answer differs, and with 2 where the command is not understood.
 
+mod centers;
 mod checker;
 mod distances;
 mod floats;
@@ -31,6 +32,7 @@ use run::Plan;
 const USAGE: &str = "\
 usage: differential distances --pairs N --seed S [--threads T]
        differential leaves --pairs N --seed S [--threads T]
+       differential centers --pairs N --seed S [--threads T]
        differential grids --plates N --seed S [--threads T]
        differential plates --plates N --seed S [--threads T]
        differential plate --kind K --seed S
@@ -58,6 +60,7 @@ fn command(words: &[String]) -> Result<bool, String> {
     match name.as_str() {
         "distances" => Ok(distances::run(plan(rest, "--pairs")?)),
         "leaves" => Ok(leaves::run(plan(rest, "--pairs")?)),
+        "centers" => Ok(centers::run(plan(rest, "--pairs")?)),
         "grids" => Ok(grids::run(plan(rest, "--plates")?)),
         "plates" => Ok(joining::run(plan(rest, "--plates")?)),
         "plate" => {

@@ -1,4 +1,5 @@
-//! The parts below the retrace call that libgrid_c.a exports: grid, cells, nearest, samples.
+//! The parts below the retrace call that libgrid_c.a exports: grid, centre, cells, nearest,
+//! samples.
 //!
 //! The library proper exports none of these: they are there to be compared and timed.
 
@@ -14,7 +15,17 @@ pub struct Grid {
     pub rows: u32,
 }
 
+/// A plate's centre.
+#[repr(C)]
+#[derive(Debug, Clone, Copy)]
+pub struct Center {
+    pub x: f64,
+    pub y: f64,
+}
+
 unsafe extern "C" {
+    safe fn twillharbor_grid_center(width: u32, height: u32) -> Center;
+
     fn twillharbor_grid_of(
         points: *const f64,
         points_length: usize,
@@ -53,6 +64,12 @@ unsafe extern "C" {
         owners: *mut u32,
         owners_length: usize,
     ) -> bool;
+}
+
+/// The centre of a plate of that size.
+#[must_use]
+pub fn center(width: u32, height: u32) -> Center {
+    twillharbor_grid_center(width, height)
 }
 
 /// The grid of a plate.

@@ -1,4 +1,3 @@
-pub mod Passing
 pub mod Writing
 pub mod Inserting
 pub mod Finding

@@ -32,7 +32,7 @@ use start::image_center;
 use start::point_at;
 
 // The number of points of a plate that refusals 1 to 4 let pass, else 0.
-fn accepted_points(points: &[f64], lengths: &[u32]) -> u32
+pub fn accepted_points(points: &[f64], lengths: &[u32]) -> u32
     ensures { λ r. ⌜ r ≡ accepted (now (points .entry)) (now (lengths .entry)) ⌝ }
 {
     let checked = check(points, lengths);
@@ -43,7 +43,7 @@ fn accepted_points(points: &[f64], lengths: &[u32]) -> u32
 }
 
 // The grid over a plate's points.
-fn grid_for(points: &[f64]) -> SpatialGrid
+pub fn grid_for(points: &[f64]) -> SpatialGrid
     requires { ⌜ Sound (box (now points)) ⌝ }
     ensures { λ r. ⌜ (r ≡ gridOf (box (now (points .entry)))) × Sane r ⌝ }
 {
@@ -139,7 +139,21 @@ pub extern "C" fn twillharbor_grid_cells(points: &[f64], lengths: &[u32], cells:
     true
 }
 
-// Makes the first `count` points the path, in order: place k is vertex k.
+// Puts the points from place `start` up to `count` on the path, in order: place k is vertex k.
+pub fn insert_run(g: SpatialGrid, points: &[f64], work: &mut [u32], start: u32, count: u32)
+    requires { ⌜
+        (Sane g) × (All OnPlate (now points)) × (2 * count ≤ length (now points)) × (count ≤ 65536)
+        × (2916 + count ≤ length (now work)) × (start ≤ count) × (Ready g (now points) (now work) start) ⌝ }
+    ensures { λ _. ⌜
+        (Ready g (now (points .entry)) (now (work .exit)) count) × (KeptFrom (2916 + count) (now (work .entry)) (now (work .exit))) ⌝ }
+{
+    for k in start..count {
+        let p = point_at(points, Vertex(k));
+        history::insert(g, &mut *work, PathPlace(k), p);
+    }
+}
+
+// Makes the first `count` points the path.
 fn insert_all(g: SpatialGrid, points: &[f64], work: &mut [u32], count: u32)
     requires { ⌜
         (Sane g) × (All OnPlate (now points)) × (2 * count ≤ length (now points)) × (count ≤ 65536)
@@ -147,10 +161,7 @@ fn insert_all(g: SpatialGrid, points: &[f64], work: &mut [u32], count: u32)
     ensures { λ _. ⌜ Ready g (now (points .entry)) (now (work .exit)) count ⌝ }
 {
     history::clear(&mut *work);
-    for k in 0..count {
-        let p = point_at(points, Vertex(k));
-        history::insert(g, &mut *work, PathPlace(k), p);
-    }
+    insert_run(g, points, &mut *work, 0, count);
 }
 
 // One more than the place that was found, or 0.

@@ -3,6 +3,7 @@
 //! Each run is made from a seed alone, whatever the number of threads. It ends with
 //! status 1 where an answer differs, and with 2 where the command is not understood.
 
+mod caches;
 mod centers;
 mod checker;
 mod distances;
@@ -34,6 +35,7 @@ usage: differential distances --pairs N --seed S [--threads T]
        differential leaves --pairs N --seed S [--threads T]
        differential centers --pairs N --seed S [--threads T]
        differential grids --plates N --seed S [--threads T]
+       differential caches --plates N --seed S [--threads T]
        differential plates --plates N --seed S [--threads T]
        differential plate --kind K --seed S
        differential retrace --plates N --seed S [--threads T]
@@ -62,6 +64,7 @@ fn command(words: &[String]) -> Result<bool, String> {
         "leaves" => Ok(leaves::run(plan(rest, "--pairs")?)),
         "centers" => Ok(centers::run(plan(rest, "--pairs")?)),
         "grids" => Ok(grids::run(plan(rest, "--plates")?)),
+        "caches" => Ok(caches::run(plan(rest, "--plates")?)),
         "plates" => Ok(joining::run(plan(rest, "--plates")?)),
         "plate" => {
             let [kind, seed] = options(rest, ["--kind", "--seed"])?;

@@ -1,7 +1,7 @@
 -- `grid_c::accepted_points` meets its contract. Assumes nothing.
 use mathlib.Core.Path.{sym, ap, _∙_}
 use Rattle.plate.specs.Answer.{checkedAnswer}
-use Rattle.grid_c.proofs.Passing.{refused-none}
+use Rattle.grid_c.specs.Passing.{refused-none}
 use Rattle.grid_c.specs.Results.{given, accepted}
 use borrow.Author.Needs.{needs}
 use Rattle.grid_c.proofs.accepted_points.Statement.{statement}

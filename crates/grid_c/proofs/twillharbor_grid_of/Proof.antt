@@ -4,7 +4,7 @@ use lib.Ieee.{ofBits}
 use borrow.Author.Needs.{needs}
 use borrow.Author.Tests.{lt-ltb, le-ltb}
 use Rattle.rules.specs.Tools.{pick}
-use Rattle.grid_c.proofs.Passing.{gridded}
+use Rattle.grid_c.specs.Passing.{gridded}
 use Rattle.grid_c.proofs.twillharbor_grid_of.Statement.{statement}
 use Rattle.grid_c.proofs.twillharbor_grid_of.Tie as tie
 use Rattle.grid_c.specs.Results.{gridResult, noGrid}

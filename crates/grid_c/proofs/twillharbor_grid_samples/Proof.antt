@@ -8,7 +8,7 @@ use lib.Seq.{length-take-le}
 use borrow.Author.Needs.{needs}
 use borrow.Author.Tests.{not-true, not-false}
 use Rattle.grid_c.proofs.Marking.{marked-longer, behind-kept}
-use Rattle.grid_c.proofs.Passing.{Gridded, room-told}
+use Rattle.grid_c.specs.Passing.{Gridded, room-told}
 use Rattle.grid_c.proofs.twillharbor_grid_samples.Statement.{statement}
 use Rattle.grid_c.proofs.twillharbor_grid_samples.Tie as tie
 

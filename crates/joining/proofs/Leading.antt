@@ -10,8 +10,8 @@ use Rattle.rules.specs.PathStatement.{IsContour}
 use Rattle.path.specs.Accepted.{Accepted}
 use Rattle.path.specs.Contours.{all-among}
 use Rattle.path.specs.Start.{start-is}
-use Rattle.optimize.specs.Packed.{Placed}
-use Rattle.optimize.specs.Contours.{all-placed}
+use Rattle.packed_contours.specs.Packed.{Placed}
+use Rattle.packed_contours.specs.Contours.{all-placed}
 
 pub lead-placed : (p : Plate) (s : Oriented) → Accepted (p .points) (p .lengths) → start p ≡ some s → Placed (p .lengths) (s .contour)
 unfolding IsContour

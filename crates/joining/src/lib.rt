@@ -12,7 +12,7 @@ ghost use Rattle.path.specs.FiniteDistances.{OnPlate};
 ghost use Rattle.path.specs.Accepted.{Accepted};
 ghost use Rattle.grid.specs.Sane.{Sane};
 ghost use Rattle.start.specs.Oriented.{contourOf, orientedOf};
-ghost use Rattle.optimize.specs.Packed.{Placed};
+ghost use Rattle.packed_contours.specs.Packed.{Placed};
 ghost use Rattle.layout.specs.Parts.{from, KeptBelow, KeptFrom};
 ghost use Rattle.prepare.specs.Prepared.{Prepared};
 ghost use Rattle.history.specs.History as history;

@@ -16,7 +16,7 @@ use Rattle.rules.specs.declared.Point.{Point}
 use Rattle.path.specs.Lists.{All, all-at}
 use Rattle.start.specs.Oriented.{contourOf}
 use Rattle.start.specs.declared.Contour as code
-use Rattle.optimize.specs.Packed.{packed, numberIn, firstIn, Placed}
+use Rattle.packed_contours.specs.Packed.{packed, numberIn, firstIn, Placed}
 
 pub getD-map : {A B : Type 0} (f : A → B) (xs : List A) (i : ℕ) (a : A) (b : B) → i < length xs → getD (map f xs) i b ≡ f (getD xs i a)
 getD-map f [] i a b h = absurd (omega arith)

@@ -22,8 +22,8 @@ use Rattle.path.specs.Winner.{winner-has, winner-some}
 use Rattle.path.specs.Start.{start-is}
 use Rattle.path.specs.Contours.{all-among, Rising, others, others-at, rising-without, contours-rise}
 use Rattle.path.specs.Accepted.{Accepted}
-use Rattle.optimize.specs.Packed.{packed, packedSense, Placed}
-use Rattle.optimize.specs.Contours.{all-placed}
+use Rattle.packed_contours.specs.Packed.{packed, packedSense, Placed}
+use Rattle.packed_contours.specs.Contours.{all-placed}
 use Rattle.optimize.specs.State.{State}
 use Rattle.optimize.proofs.Scan.{blank, getD-map, number-is, first-is}
 

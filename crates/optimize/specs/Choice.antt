@@ -6,7 +6,7 @@ use Prim.Native.Nat.{ℕ, _<_}
 use lib.ListN.{length, getD}
 use Rattle.rules.specs.Start.{Oriented}
 use Rattle.start.specs.Oriented.{contourOf, orientedOf}
-use Rattle.optimize.specs.Packed.{packed}
+use Rattle.packed_contours.specs.Packed.{packed}
 use Rattle.optimize.specs.declared.nearest.Choice.{Choice}
 use Rattle.optimize.specs.declared.nearest.Choice.the-variants.{At, Nothing}
 

@@ -1,5 +1,2 @@
-pub mod Packed
 pub mod Choice
-pub mod Contours
 pub mod State
-pub mod Unpacked

@@ -10,7 +10,7 @@ use Rattle.rules.specs.OrderAndStraight.{orderAfter, order}
 use Rattle.path.specs.Lists.{All}
 use Rattle.path.specs.Contours.{Rising}
 use Rattle.start.specs.Oriented.{orientedOf}
-use Rattle.optimize.specs.Packed.{packed, packedSense, Placed}
+use Rattle.packed_contours.specs.Packed.{packed, packedSense, Placed}
 use Rattle.optimize.specs.declared.Next.{Next}
 use Rattle.optimize.specs.declared.Next.the-variants.{Then, Nothing}
 

@@ -10,17 +10,16 @@ ghost use Rattle.rules.specs.Start.{start};
 ghost use Rattle.rules.specs.OrderAndStraight.{lastEnd, order};
 ghost use Rattle.path.specs.Accepted.{Accepted};
 ghost use Rattle.start.specs.Oriented.{contourOf, orientedOf};
-ghost use Rattle.optimize.specs.Packed.{packed, packedSense};
+ghost use Rattle.packed_contours.specs.Packed.{packed, packedSense};
 ghost use Rattle.optimize.specs.State.{State, Continued};
 
 mod nearest;
-mod waiting;
 
 use crate::nearest::Choice;
 use crate::nearest::nearest_waiting;
-use crate::waiting::list_contours;
-use crate::waiting::move_down;
-use crate::waiting::place_of;
+use packed_contours::list_contours;
+use packed_contours::move_down;
+use packed_contours::place_of;
 use rules::Point;
 use rules::StartPointStrategy;
 use rules::Vertex;

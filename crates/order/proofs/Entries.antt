@@ -13,8 +13,8 @@ use Rattle.path.specs.Accepted.{Accepted}
 use Rattle.path.specs.Ordering.{order-few}
 use Rattle.slices.specs.Over.{take-min}
 use Rattle.slices.specs.Pairs.{pairs, pairs-take}
-use Rattle.optimize.specs.Packed.{packedSense, numberIn}
-use Rattle.optimize.specs.Unpacked.{senseIn, Unpacked, order-unpacked, words-there}
+use Rattle.packed_contours.specs.Packed.{packedSense, numberIn}
+use Rattle.packed_contours.specs.Unpacked.{senseIn, Unpacked, order-unpacked, words-there}
 
 entries-packed : (ns : List ℕ) (ss : List Oriented) → All (Unpacked ns) ss → pairs numberIn senseIn (map packedSense ss) ≡ entries ss
 unfolding pairs entries

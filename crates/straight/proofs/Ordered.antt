@@ -14,8 +14,8 @@ use Rattle.rules.specs.Start.{Oriented}
 use Rattle.rules.specs.OrderAndStraight.{order, straight}
 use Rattle.path.specs.Lists.{All, all-give, all-map}
 use Rattle.path.specs.Accepted.{Accepted}
-use Rattle.optimize.specs.Packed.{packedSense, numberIn, firstIn}
-use Rattle.optimize.specs.Unpacked.{Unpacked, order-unpacked}
+use Rattle.packed_contours.specs.Packed.{packedSense, numberIn, firstIn}
+use Rattle.packed_contours.specs.Unpacked.{Unpacked, order-unpacked}
 use Rattle.straight.specs.Runs.{run, runOf, runs, Readable}
 
 sense-is : (b : Bool) → eqb (pick b 1 0) 1 ≡ b

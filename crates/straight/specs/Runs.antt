@@ -6,8 +6,8 @@ use lib.Dec.{eqb}
 use lib.Ieee.{Float}
 use lib.ListN.{length, getD}
 use Rattle.rules.specs.Tools.{pick, upFrom, downTo}
-use Rattle.optimize.specs.Packed.{numberIn, firstIn}
-use Rattle.optimize.specs.Unpacked.{senseIn}
+use Rattle.packed_contours.specs.Packed.{numberIn, firstIn}
+use Rattle.packed_contours.specs.Unpacked.{senseIn}
 
 -- the n vertices from `first` on, or from the last of them back
 unfoldable pub run : Bool → ℕ → ℕ → List ℕ

@@ -10,7 +10,7 @@ use Rattle.rules.specs.HandedOver.{plate, contoursFrom, contours, over}
 use Rattle.rules.specs.Start.{start}
 use Rattle.rules.specs.declared.StartPointStrategy.{StartPointStrategy}
 use Rattle.start.specs.Oriented.{orientedOf, leadOf}
-use Rattle.optimize.specs.Packed.{packed, packedSense}
+use Rattle.packed_contours.specs.Packed.{packed, packedSense}
 use Rattle.optimize.specs.State.{State, Continued}
 use Rattle.optimize.proofs.Steps.{no-order, whole-order}
 use Rattle.optimize.proofs.optimize_path_order.Statement.{statement}

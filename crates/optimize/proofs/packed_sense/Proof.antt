@@ -5,7 +5,7 @@ use native.Mathlib.Omega.{arith}
 use Prim.Native.Nat.{ℕ, _+_}
 use Rattle.rules.specs.Tools.{pick}
 use Rattle.start.specs.Oriented.{contourOf, orientedOf}
-use Rattle.optimize.specs.Packed.{packed, packedSense}
+use Rattle.packed_contours.specs.Packed.{packed, packedSense}
 use borrow.Author.Needs.{needs}
 use Rattle.optimize.proofs.packed_sense.Statement.{statement}
 use Rattle.optimize.proofs.packed_sense.Tie as tie

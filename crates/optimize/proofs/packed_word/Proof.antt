@@ -1,7 +1,7 @@
 -- `optimize::packed_word` meets its contract. Assumes nothing.
 use mathlib.Core.Path.{refl}
 use Rattle.start.specs.Oriented.{contourOf}
-use Rattle.optimize.specs.Packed.{packed}
+use Rattle.packed_contours.specs.Packed.{packed}
 use borrow.Author.Needs.{needs}
 use Rattle.optimize.proofs.packed_word.Statement.{statement}
 use Rattle.optimize.proofs.packed_word.Tie as tie

@@ -9,7 +9,7 @@ use mathlib.Core.List.{_++_, _∷_}
 use Rattle.rules.specs.HandedOver.{Contour, contours}
 use Rattle.rules.specs.PathStatement.{Among}
 use Rattle.start.specs.Oriented.{contourOf, orientedOf}
-use Rattle.optimize.specs.Packed.{packed}
+use Rattle.packed_contours.specs.Packed.{packed}
 use Rattle.optimize.proofs.Steps.{before-end, start-placed, start-among, first-state}
 use borrow.Author.Needs.{needs}
 use Rattle.optimize.proofs.put_first.Statement.{statement}

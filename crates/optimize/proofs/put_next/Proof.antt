@@ -9,7 +9,7 @@ use Rattle.rules.specs.OrderAndStraight.{nearerSense, nearerEnd}
 use Rattle.rules.specs.declared.Point.{Point}
 use Rattle.path.specs.Lists.{All}
 use Rattle.start.specs.Oriented.{contourOf, orientedOf}
-use Rattle.optimize.specs.Packed.{packed, Placed}
+use Rattle.packed_contours.specs.Packed.{packed, Placed}
 use Rattle.optimize.specs.Choice.{choiceOf, Stands}
 use Rattle.optimize.specs.State.{Continued}
 use Rattle.optimize.proofs.Steps.{no-winner, winner-placed, waiting-words, next-state}

@@ -7,8 +7,8 @@ use lib.ListN.{length, take, set, getD, length-set}
 use lib.Seq.{take-all}
 use Rattle.rules.specs.HandedOver.{over}
 use Rattle.slices.specs.Pairs.{pairs, pairs-store}
-use Rattle.optimize.specs.Packed.{numberIn}
-use Rattle.optimize.specs.Unpacked.{senseIn}
+use Rattle.packed_contours.specs.Packed.{numberIn}
+use Rattle.packed_contours.specs.Unpacked.{senseIn}
 use borrow.Author.Needs.{needs}
 use Rattle.order.proofs.write_entries.Statement.{statement}
 use Rattle.order.proofs.write_entries.Tie as tie

@@ -7,7 +7,7 @@ use lib.ListN.{length, take, length-take}
 use Rattle.rules.specs.HandedOver.{Plate, plate, over}
 use Rattle.rules.specs.RetraceAndMarks.{coordinates}
 use Rattle.rules.specs.OrderAndStraight.{order}
-use Rattle.optimize.specs.Unpacked.{words-there}
+use Rattle.packed_contours.specs.Unpacked.{words-there}
 use Rattle.straight.specs.Runs.{runs}
 use Rattle.straight.proofs.Ordered.{order-runs, order-readable}
 use borrow.Author.Needs.{needs}

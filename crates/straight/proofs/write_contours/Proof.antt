@@ -12,8 +12,8 @@ use Rattle.rules.specs.HandedOver.{over}
 use Rattle.rules.specs.RetraceAndMarks.{coordinates}
 use Rattle.path.specs.Lists.{all-at}
 use Rattle.path.specs.Ordering.{run-length}
-use Rattle.optimize.specs.Packed.{numberIn, firstIn}
-use Rattle.optimize.specs.Unpacked.{senseIn}
+use Rattle.packed_contours.specs.Packed.{numberIn, firstIn}
+use Rattle.packed_contours.specs.Unpacked.{senseIn}
 use Rattle.slices.specs.Pairs.{coordinates-take}
 use Rattle.straight.specs.Runs.{run, runOf, runs, Readable}
 use Rattle.straight.proofs.Drawing.{Drawn, drawn-none, drawn-more, runs-next}

@@ -4,7 +4,7 @@ use Rattle.rules.specs.Tools.{leads}
 use Rattle.rules.specs.OrderAndStraight.{nearerEnd}
 use Rattle.start.specs.Oriented.{contourOf}
 use Rattle.start.specs.declared.Contour.{Contour}
-use Rattle.optimize.specs.Packed.{packed}
+use Rattle.packed_contours.specs.Packed.{packed}
 use Rattle.optimize.specs.Choice.{choiceOf}
 use Rattle.optimize.proofs.Choices.{later}
 use borrow.Author.Needs.{needs}

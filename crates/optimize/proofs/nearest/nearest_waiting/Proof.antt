@@ -10,7 +10,7 @@ use Rattle.rules.specs.HandedOver.{Plate, Contour}
 use Rattle.rules.specs.OrderAndStraight.{nearerSense, nearerEnd}
 use Rattle.path.specs.Lists.{All}
 use Rattle.start.specs.Oriented.{contourOf}
-use Rattle.optimize.specs.Packed.{packed, Placed}
+use Rattle.packed_contours.specs.Packed.{packed, Placed}
 use Rattle.optimize.specs.Choice.{choiceOf, Stands}
 use Rattle.optimize.proofs.Scan.{blank, word-in, word-is, word-placed, word-number, word-first, word-length, word-contour, scanned, scan-step, scan-end}
 use Rattle.optimize.proofs.nearest.nearest_waiting.Statement.{statement}

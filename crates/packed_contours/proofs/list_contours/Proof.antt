@@ -1,12 +1,12 @@
--- `optimize::waiting::list_contours` meets its contract. Assumes nothing.
+-- `packed_contours::list_contours` meets its contract. Assumes nothing.
 use Prim.Native.Nat.{_-_}
 use native.Mathlib.Omega.{arith}
 use borrow.Author.Needs.{needs}
 use lib.ListN.{length}
 use mathlib.Core.Logic.{_⊎_, inl, inr}
-use Rattle.optimize.proofs.Listing.{Listed, begun, first-small, next-small, skip, store, whole}
-use Rattle.optimize.proofs.waiting.list_contours.Statement.{statement}
-use Rattle.optimize.proofs.waiting.list_contours.Tie as tie
+use Rattle.packed_contours.proofs.Listing.{Listed, begun, first-small, next-small, skip, store, whole}
+use Rattle.packed_contours.proofs.list_contours.Statement.{statement}
+use Rattle.packed_contours.proofs.list_contours.Tie as tie
 
 abbrev Inv-loop : tie.InvT-loop
 Inv-loop lengths work₀ n₀ first₀ i₀ work n first i = Listed lengths work₀ work n first i

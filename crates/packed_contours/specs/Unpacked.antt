@@ -12,8 +12,8 @@ use Rattle.rules.specs.OrderAndStraight.{order}
 use Rattle.path.specs.Lists.{All, all-give}
 use Rattle.path.specs.Accepted.{Accepted}
 use Rattle.path.specs.Ordering.{order-has}
-use Rattle.optimize.specs.Packed.{packed, packedSense, numberIn, firstIn, Placed}
-use Rattle.optimize.specs.Contours.{all-placed}
+use Rattle.packed_contours.specs.Packed.{packed, packedSense, numberIn, firstIn, Placed}
+use Rattle.packed_contours.specs.Contours.{all-placed}
 
 -- 1 if it is reversed, else 0
 abbrev pub senseIn : ℕ → ℕ

@@ -1,12 +1,12 @@
--- `optimize::waiting::move_down` meets its contract. Assumes nothing.
+-- `packed_contours::move_down` meets its contract. Assumes nothing.
 use Prim.Native.Nat.{_-_, _≤_}
 use mathlib.Core.Path.{_≡_, refl, ap, _∙_}
 use native.Mathlib.Omega.{arith}
 use borrow.Author.Needs.{needs}
 use lib.ListN.{length, length-set}
-use Rattle.optimize.proofs.Moving.{Moved, moved-none, moved-next, store}
-use Rattle.optimize.proofs.waiting.move_down.Statement.{statement}
-use Rattle.optimize.proofs.waiting.move_down.Tie as tie
+use Rattle.packed_contours.proofs.Moving.{Moved, moved-none, moved-next, store}
+use Rattle.packed_contours.proofs.move_down.Statement.{statement}
+use Rattle.packed_contours.proofs.move_down.Tie as tie
 
 abbrev Inv-loop : tie.InvT-loop
 Inv-loop work₀ s k word i₀ work i = (s ≤ i) × (i ≤ k) × (length work ≡ length work₀) × Moved work₀ k i work

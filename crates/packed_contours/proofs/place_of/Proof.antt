@@ -1,11 +1,11 @@
--- `optimize::waiting::place_of` meets its contract. Assumes nothing.
+-- `packed_contours::place_of` meets its contract. Assumes nothing.
 use Prim.Native.Nat.{ℕ, _≤_, _<_, _-_}
 use mathlib.Core.Path.{_≡_}
 use borrow.Author.Count.{below-more}
 use borrow.Author.Needs.{needs}
 use lib.ListN.{length, getD}
-use Rattle.optimize.proofs.waiting.place_of.Statement.{statement}
-use Rattle.optimize.proofs.waiting.place_of.Tie as tie
+use Rattle.packed_contours.proofs.place_of.Statement.{statement}
+use Rattle.packed_contours.proofs.place_of.Tie as tie
 
 abbrev Inv-loop : tie.InvT-loop
 Inv-loop words word i₀ i = (i ≤ length words) × ((j : ℕ) → j < i → getD words j 0 ≡ word → ⊥)

@@ -9,7 +9,7 @@ use Rattle.rules.specs.Tools.{sum}
 use Rattle.rules.specs.HandedOver.{Plate, Contour, contoursFrom, contours}
 use Rattle.path.specs.Lists.{All, all-give}
 use Rattle.path.specs.Accepted.{Accepted}
-use Rattle.optimize.specs.Packed.{Placed}
+use Rattle.packed_contours.specs.Packed.{Placed}
 
 -- c is a contour of the lengths that begin at contour j and vertex v
 record From (j v : ℕ) (ns : List ℕ) (c : Contour) : Type 0 where

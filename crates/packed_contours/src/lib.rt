@@ -1,11 +1,11 @@
-// The waiting contours, packed in the work slice: one number each, in the order of the contours.
+// Contours packed in the work slice, one number each.
 ghost use mathlib.Core.Path.{_≡_};
 ghost use mathlib.Core.List.{map, _++_, _∷_};
 ghost use Prim.Native.Nat.{ℕ, _+_, _-_, _*_, _≤_, _<_};
 ghost use lib.ListN.{length, getD, take, drop};
 ghost use Rattle.rules.specs.Tools.{sum};
 ghost use Rattle.rules.specs.HandedOver.{contoursFrom, over};
-ghost use Rattle.optimize.specs.Packed.{packed, numberIn, firstIn};
+ghost use Rattle.packed_contours.specs.Packed.{packed, numberIn, firstIn};
 use rules::Vertex;
 use start::Contour;
 

@@ -11,7 +11,7 @@ use lib.Seq.{take-suc, take-all}
 use Rattle.rules.specs.Tools.{sum}
 use Rattle.rules.specs.HandedOver.{Contour, contoursFrom, over}
 use Rattle.slices.specs.Over.{over-snoc}
-use Rattle.optimize.specs.Packed.{packed}
+use Rattle.packed_contours.specs.Packed.{packed}
 
 -- the contour of one length
 abbrev pub one : ℕ → ℕ → ℕ → List Contour

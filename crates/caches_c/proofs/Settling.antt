@@ -1,13 +1,13 @@
 -- A contour waits no more, and the caches of the others are updated around it. Assumes nothing.
-use mathlib.Core.Path.{_≡_, refl, sym, ap, subst, _∙_}
+use mathlib.Core.Path.{_≡_, sym, ap, subst, _∙_}
 use mathlib.Core.List.{List}
-use Prim.Native.Nat.{ℕ, suc, _+_, _-_, _<_}
+use Prim.Native.Nat.{ℕ, _+_, _-_, _<_}
 use native.Mathlib.Omega.{arith}
 use lib.Ieee.{Float}
 use lib.ListN.{length, getD, set, length-set}
 use lib.Seq.{getD-set-other}
 use Rattle.rules.specs.HandedOver.{Plate, Contour, contours, contoursFrom, vertexAt}
-use Rattle.rules.specs.SamplesAndCache.{Waiting, waiting, seed, update, cellsAround}
+use Rattle.rules.specs.SamplesAndCache.{waiting, seed, update, cellsAround}
 use Rattle.rules.specs.declared.Point.{Point}
 use Rattle.rules.specs.declared.SpatialGrid.{SpatialGrid}
 use Rattle.path.specs.Lists.{All, all-give}

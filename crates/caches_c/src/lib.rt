@@ -177,8 +177,8 @@ fn has_slices(m: usize, work: usize, distances: usize, entries: usize) -> bool
     m <= entries
 }
 
-// Leaves the squared distance and the entry of each waiting contour in the slices, for a contour that was emitted when the path had
-// `before` points and ends the path of `count` points.
+// Leaves the squared distance and the entry of each waiting contour in the slices, after the contour of a number was emitted: the first
+// `before` points were the path when the caches were seeded, the first `count` are the path now.
 #[no_mangle]
 pub extern "C" fn twillharbor_caches_update(
     points: &[f64],

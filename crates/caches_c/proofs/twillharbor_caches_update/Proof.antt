@@ -1,5 +1,5 @@
 -- `caches_c::twillharbor_caches_update` meets its contract. Assumes nothing.
-use mathlib.Core.Path.{_≡_, refl, sym, _∙_}
+use mathlib.Core.Path.{refl, sym, _∙_}
 use mathlib.Core.Bool.{true, false, true≢false}
 use Prim.Native.Nat.{_≤_, _<_}
 use native.Mathlib.Omega.{arith}

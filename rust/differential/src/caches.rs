@@ -1,6 +1,8 @@
 //! The caches of the waiting contours against the reference: seeded as `join_retrace` does it,
 //! then updated by `update_nearby_caches`.
 
+use std::ops::Range;
+
 use harness::caches::{self, Emitted};
 use harness::plates::polylines;
 use harness::random::Random;
@@ -92,48 +94,24 @@ fn reference(plate: &Plate, emitted: Emitted) -> (Vec<Cache>, bool) {
     let (numbers, candidates): (Vec<usize>, Vec<&Polyline>) =
         contours.iter().enumerate().filter(|(_, contour)| !contour.is_empty()).unzip();
     let mut grid = reference_grid(&candidates);
-    let samples: Vec<Vec<usize>> = candidates
-        .iter()
-        .map(|contour| door::arc_length_sample_indices(contour, grid.cell_size()))
-        .collect();
-    let mut in_cells: Vec<Vec<(usize, Point, usize)>> = vec![Vec::new(); grid.cols() * grid.rows()];
-    for (j, indices) in samples.iter().enumerate() {
-        for &i in indices {
-            let point = candidates[j].points()[i];
-            let (col, row) = grid.cell_of(point);
-            in_cells[row * grid.cols() + col].push((j, point, i));
-        }
-    }
+    let samples: Vec<Vec<(usize, Point)>> =
+        candidates.iter().map(|contour| samples(contour, grid.cell_size())).collect();
     let used: Vec<bool> = numbers.iter().map(|&number| number == emitted.number as usize).collect();
-    let (coordinates, _) = plate.points.as_chunks();
-    let path: Vec<Point> = coordinates.iter().map(|&[x, y]| Point::new(x, y)).collect();
-
-    let before = emitted.before as usize;
-    for (place, &p) in path.iter().enumerate().take(before) {
-        grid.insert(place, p);
-    }
-    let mut cache = vec![(f64::INFINITY, 0, 0); candidates.len()];
-    for (j, indices) in samples.iter().enumerate().filter(|&(j, _)| !used[j]) {
-        for &i in indices {
-            if let Some((place, squared)) = grid.nearest(candidates[j].points()[i])
-                && squared < cache[j].0
-            {
-                cache[j] = (squared, i, place);
-            }
-        }
-    }
-    for (place, &p) in path.iter().enumerate().take(emitted.count as usize).skip(before) {
-        grid.insert(place, p);
-    }
-    let seeded = cache.clone();
     let own = used.iter().position(|&used| used).expect("a contour that is not empty");
+    let (path, _) = plate.points.as_chunks();
+    let (before, count) = (emitted.before as usize, emitted.count as usize);
+
+    insert(&mut grid, path, 0..before);
+    let seeded = seed(&grid, &samples, &used);
+    insert(&mut grid, path, before..count);
+    let mut cache = seeded.clone();
     door::update_nearby_caches(
         candidates[own].points(),
         &grid,
-        &in_cells,
+        &by_cell(&grid, &samples),
         &used,
         &mut cache,
-        &mut vec![false; in_cells.len()],
+        &mut vec![false; grid.cols() * grid.rows()],
         &mut Vec::new(),
     );
     let replaced = cache != seeded;
@@ -145,6 +123,51 @@ fn reference(plate: &Plate, emitted: Emitted) -> (Vec<Cache>, bool) {
         entry: first(number) + i,
     });
     (caches.collect(), replaced)
+}
+
+/// The samples of a contour: each vertex, counted from 0 within it, and its point.
+fn samples(contour: &Polyline, cell_size: f64) -> Vec<(usize, Point)> {
+    let indices = door::arc_length_sample_indices(contour, cell_size);
+    indices.into_iter().map(|i| (i, contour.points()[i])).collect()
+}
+
+/// Puts the places of a range on the path.
+fn insert(grid: &mut door::Grid, path: &[[f64; 2]], places: Range<usize>) {
+    for place in places {
+        let [x, y] = path[place];
+        grid.insert(place, Point::new(x, y));
+    }
+}
+
+/// The caches after the start, as `join_retrace` seeds them.
+fn seed(
+    grid: &door::Grid,
+    samples: &[Vec<(usize, Point)>],
+    used: &[bool],
+) -> Vec<(f64, usize, usize)> {
+    let mut cache = vec![(f64::INFINITY, 0, 0); samples.len()];
+    for (j, samples) in samples.iter().enumerate().filter(|&(j, _)| !used[j]) {
+        for &(i, point) in samples {
+            if let Some((place, squared)) = grid.nearest(point)
+                && squared < cache[j].0
+            {
+                cache[j] = (squared, i, place);
+            }
+        }
+    }
+    cache
+}
+
+/// The samples of each cell, as `join_retrace` lists them.
+fn by_cell(grid: &door::Grid, samples: &[Vec<(usize, Point)>]) -> Vec<Vec<(usize, Point, usize)>> {
+    let mut cells = vec![Vec::new(); grid.cols() * grid.rows()];
+    for (j, samples) in samples.iter().enumerate() {
+        for &(i, point) in samples {
+            let (col, row) = grid.cell_of(point);
+            cells[row * grid.cols() + col].push((j, point, i));
+        }
+    }
+    cells
 }
 
 #[cfg(test)]

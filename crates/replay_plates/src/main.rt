@@ -69,7 +69,38 @@ fn straight_agrees(
     numbers_differ(text, i, &numbers) == 0 && floats_differ(text, i + 3, path) == 0
 }
 
-// The three calls on the same plate, one after the other.
+// The straight call with a path whose every element is 100.
+fn straight_lent(
+    text: &[u8],
+    i: usize,
+    points: &[f64],
+    lengths: &[u32],
+    width: u32,
+    height: u32,
+    inside: bool,
+    path: usize,
+    work: usize,
+) -> bool
+    requires { ⌜ i ≤ 16000 ⌝ }
+    requires { ⌜ path ≤ 64 ⌝ }
+    requires { ⌜ work ≤ 64 ⌝ }
+{
+    let mut places = [100.0f64; 64];
+    let mut straight_work = [9u32; 64];
+    straight_agrees(
+        text,
+        i,
+        points,
+        lengths,
+        width,
+        height,
+        inside,
+        &mut places[..path],
+        &mut straight_work[..work],
+    )
+}
+
+// The three calls on the same plate, one after the other. The entries lent are 0xa5a5a5a5.
 fn calls_agree(
     text: &[u8],
     i: usize,
@@ -88,9 +119,7 @@ fn calls_agree(
     requires { ⌜ work ≤ 64 ⌝ }
 {
     let mut entries = [2779096485u32; 64];
-    let mut places = [100.0f64; 64];
     let mut order_work = [7u32; 64];
-    let mut straight_work = [9u32; 64];
     let a = start_agrees(text, i, points, lengths, width, height, inside);
     let b = order_agrees(
         text,
@@ -103,17 +132,8 @@ fn calls_agree(
         &mut entries[..order],
         &mut order_work[..work],
     );
-    let c = straight_agrees(
-        text,
-        i + 7 + order,
-        points,
-        lengths,
-        width,
-        height,
-        inside,
-        &mut places[..path],
-        &mut straight_work[..work],
-    );
+    let j = i + 7 + order;
+    let c = straight_lent(text, j, points, lengths, width, height, inside, path, work);
     a && b && c
 }
 
@@ -180,15 +200,14 @@ fn sized_row(
     if 40 < n || 12 < m || 64 < order || 64 < path || 64 < work {
         return Row::Broken;
     }
-    let j = i + n;
-    let k = j + m;
+    let k = i + n + m;
     let end = k + order + path + 10;
     let mut points = [0.0f64; 40];
     let mut lengths = [0u32; 12];
     let agrees = plate_agrees(
         text,
         i,
-        j,
+        i + n,
         k,
         &mut points[..n],
         &mut lengths[..m],

@@ -158,15 +158,14 @@ fn sized_row(
     if 40 < n || 12 < m || 128 < path || 128 < marks || 16640 < work || 16 < distances {
         return Row::Broken;
     }
-    let j = i + n;
-    let k = j + m;
+    let k = i + n + m;
     let end = k + path + marks + 6;
     let mut points = [0.0f64; 40];
     let mut lengths = [0u32; 12];
     let agrees = plate_agrees(
         text,
         i,
-        j,
+        i + n,
         k,
         &mut points[..n],
         &mut lengths[..m],

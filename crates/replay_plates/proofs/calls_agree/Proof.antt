@@ -27,26 +27,14 @@ slice-aggregate-order-agrees-2 c = sym (length-take-le _ _ (omega arith))
 order-agrees-requires : tie.Need-order-agrees-requires
 order-agrees-requires c κs = search needs
 
-add-straight-agrees : tie.Need-add-straight-agrees
-add-straight-agrees c = search needs
+add-j : tie.Need-add-j
+add-j c = search needs
 
-add-straight-agrees-2 : tie.Need-add-straight-agrees-2
-add-straight-agrees-2 c = search needs
+add-j-2 : tie.Need-add-j-2
+add-j-2 c = search needs
 
-array-borrow-prefix-places : tie.Need-array-borrow-prefix-places
-array-borrow-prefix-places c = search needs
-
-slice-aggregate-straight-agrees : tie.Need-slice-aggregate-straight-agrees
-slice-aggregate-straight-agrees c = sym (length-take-le _ _ (omega arith))
-
-array-borrow-prefix-straight-work : tie.Need-array-borrow-prefix-straight-work
-array-borrow-prefix-straight-work c = search needs
-
-slice-aggregate-straight-agrees-2 : tie.Need-slice-aggregate-straight-agrees-2
-slice-aggregate-straight-agrees-2 c = sym (length-take-le _ _ (omega arith))
-
-straight-agrees-requires : tie.Need-straight-agrees-requires
-straight-agrees-requires c κs = search needs
+straight-lent-requires : tie.Need-straight-lent-requires
+straight-lent-requires c κs = search needs
 
 returns : tie.Need-returns
 returns c = search needs
@@ -65,12 +53,8 @@ calls-agree-spec =
     array-borrow-prefix-order-work
     slice-aggregate-order-agrees-2
     order-agrees-requires
-    add-straight-agrees
-    add-straight-agrees-2
-    array-borrow-prefix-places
-    slice-aggregate-straight-agrees
-    array-borrow-prefix-straight-work
-    slice-aggregate-straight-agrees-2
-    straight-agrees-requires
+    add-j
+    add-j-2
+    straight-lent-requires
     returns
     returns-2)

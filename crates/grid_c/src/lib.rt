@@ -1,4 +1,4 @@
-// Parts below the retrace call, exported for runs and for the benchmark: no part of the product's interface.
+// Parts below the retrace call, exported for runs: no part of the product's interface.
 // A plate has a grid where refusals 1 to 4 let it pass and it has a point. Where it has none, and where a slice is short, nothing is written.
 ghost use mathlib.Core.Path.{_≡_};
 ghost use mathlib.Core.Bool.{true, false};

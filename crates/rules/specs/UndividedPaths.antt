@@ -1,6 +1,6 @@
 -- Wrong paths, as rows of one table that one theorem covers: none of them divides (`Divides` of PathStatement). There is a row or more for each clause, in
 -- the clauses' order. A row's comment names the clause that excludes it; it keeps all others but those that the comment says it breaks too.
--- Two parts of `pairs` are not broken by any path, since a path point's vertex is found from its mark: that a jump's vertex is the one that it names
+-- Two parts of `pairs` are not broken alone by any path, since a path point's vertex is found from its mark: that a jump's vertex is the one that it names
 -- (`landing`), and that a back-step's is path point r's (`to`). A path that goes elsewhere breaks `coordinates`.
 use mathlib.Core.Path.{_≡_, refl, ap}
 use mathlib.Core.Logic.{inl, inr}

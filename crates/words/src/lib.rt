@@ -1,5 +1,5 @@
 // Words of a text: sixteen lowercase hexadecimal digits and one separator each, floats as bit patterns. A word that is missing or not
-// hexadecimal reads as all ones: no recorded row has such a word.
+// hexadecimal reads as all ones: no recorded number or answer is that, only a coordinate may be (a NaN).
 ghost use mathlib.Core.Path.{_≡_};
 ghost use Prim.Native.Nat.{_+_, _/_, _≤_, min};
 ghost use lib.Dec.{eqb};

@@ -110,7 +110,7 @@ fn mark_contour(
 // Marks the samples of every contour.
 pub fn mark_samples(points: &[f64], lengths: &[u32], owners: &mut [u32], resolution: f64)
     requires { ⌜
-        (length (now lengths) ≤ 4096) × (sum (now lengths) ≤ length (now owners)) × (length (now owners) ≤ 65536)
+        (length (now lengths) ≤ 4096) × (sum (now lengths) ≡ length (now owners)) × (length (now owners) ≤ 65536)
         × (2 * length (now owners) ≤ length (now points)) ⌝ }
     ensures { λ _. ⌜ MarkedAll (now (points .entry)) resolution (now (lengths .entry)) (now (owners .exit)) ⌝ }
 {

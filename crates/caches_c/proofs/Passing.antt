@@ -2,8 +2,9 @@
 use mathlib.Core.Path.{_≡_, refl, sym, _∙_}
 use mathlib.Core.Bool.{Bool, true, false, _&&_, true≢false}
 use Prim.Native.Nat.{ℕ, _≤_, _<_}
-use lib.Dec.{ltb, leb}
-use borrow.Author.Tests.{ltb-true, leb-true}
+use native.Mathlib.Omega.{arith}
+use lib.Dec.{ltb, leb, eqb}
+use borrow.Author.Tests.{ltb-true, leb-true, eqb-true}
 use Rattle.caches_c.specs.Results.{hasPath, hasSlices}
 
 both : (a b : Bool) → true ≡ (a && b) → (true ≡ a) × (true ≡ b)
@@ -21,9 +22,9 @@ path-told n size before count e =
 pub slices-told : (m work distances entries : ℕ) → true ≡ hasSlices m work distances entries → (376832 ≤ work) × (m ≤ distances) × (m ≤ entries)
 unfolding hasSlices
 slices-told m work distances entries e =
-    let a = both _ (leb m entries) e in
-    let b = both (leb 376832 work) (leb m distances) (a .0) in
-    (leb-true 376832 work (sym (b .0)), leb-true m distances (sym (b .1)), leb-true m entries (sym (a .1)))
+    let a = both _ (eqb m entries) e in
+    let b = both (leb 376832 work) (eqb m distances) (a .0) in
+    (leb-true 376832 work (sym (b .0)), omega (arith, eqb-true m distances (sym (b .1))), omega (arith, eqb-true m entries (sym (a .1))))
 
 -- the first test, of the plate and of the contour
 pub path-of : (b : Bool) (n m size long before count : ℕ) → b ≡ hasPath n size before count → n ≡ m → size ≡ long → b ≡ hasPath m long before count

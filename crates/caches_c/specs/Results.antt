@@ -3,7 +3,7 @@ use mathlib.Core.Path.{_≡_}
 use mathlib.Core.Bool.{Bool, _&&_}
 use mathlib.Core.List.{List}
 use Prim.Native.Nat.{ℕ, _+_}
-use lib.Dec.{ltb, leb}
+use lib.Dec.{ltb, leb, eqb}
 use lib.Ieee.{Float, nan}
 use lib.ListN.{getD}
 use Rattle.rules.specs.HandedOver.{Plate, Contour, contours, vertexAt}
@@ -21,7 +21,7 @@ hasPath n size before count = ltb 0 n && ltb 0 size && leb before count && leb c
 
 -- the lengths of the slices, for m contours
 unfoldable pub hasSlices : ℕ → ℕ → ℕ → ℕ → Bool
-hasSlices m work distances entries = leb 376832 work && leb m distances && leb m entries
+hasSlices m work distances entries = leb 376832 work && eqb m distances && eqb m entries
 
 -- ---- the caches
 

@@ -164,21 +164,22 @@ fn has_path(n: u32, size: u32, before: u32, count: u32) -> bool
     count <= n
 }
 
-// Whether the slices are long enough for m contours.
+// Whether the work slice is long enough, and the others are of m contours.
 fn has_slices(m: usize, work: usize, distances: usize, entries: usize) -> bool
     ensures { λ r. ⌜ r ≡ hasSlices m work distances entries ⌝ }
 {
     if work < 376832 {
         return false;
     }
-    if distances < m {
+    if m != distances {
         return false;
     }
-    m <= entries
+    m == entries
 }
 
 // Leaves the squared distance and the entry of each waiting contour in the slices, after the contour of a number was emitted: the first
-// `before` points were the path when the caches were seeded, the first `count` are the path now.
+// `before` points were the path when the caches were seeded, the first `count` are the path now. What the slices then hold for that
+// contour and for empty ones is free.
 #[no_mangle]
 pub extern "C" fn twillharbor_caches_update(
     points: &[f64],

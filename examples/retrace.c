@@ -12,13 +12,14 @@ int main(void) {
     /* (0,0)(4,0)(8,0) | (0,1), 0 by 0, Inside. */
     const double points[2 * POINTS] = {0, 0, 4, 0, 8, 0, 0, 1};
     const uint32_t lengths[CONTOURS] = {3, 1};
+    const uint32_t layers[CONTOURS] = {0, 0};
     double path[2 * ROOM], distances[CONTOURS];
     uint32_t marks[2 * ROOM], i;
     static uint32_t work[ROOM + 4 * POINTS + 8 * CONTOURS + 16384];
 
     struct twillharbor_retrace_result joined = twillharbor_retrace(
-        points, 2 * POINTS, lengths, CONTOURS, 0, 0, true, path, 2 * ROOM, marks, 2 * ROOM,
-        work, sizeof work / sizeof work[0], distances, CONTOURS);
+        points, 2 * POINTS, lengths, CONTOURS, layers, CONTOURS, 0, 0, true, path, 2 * ROOM,
+        marks, 2 * ROOM, work, sizeof work / sizeof work[0], distances, CONTOURS);
     if (joined.number != 0) {
         printf("refusal %" PRIu32 " at place %" PRIu32 "\n", joined.number, joined.place);
         return 1;

@@ -21,6 +21,7 @@
  *   1   too many contours   M above 4,096
  *   2   too many points     the lengths sum to more than 65,536
  *   3   miscounted          point slice length is not twice that sum
+ *   13  bad layer           layer slice length is not M, or a layer is above 15
  *   4   off the plate       a coordinate is NaN, infinite or of magnitude above
  *                           1,000,000 (the distance call: 2,147,483,648)
  *   5   work short          u32 work below C + 4P + 8M + 16,384 or f64 work below M
@@ -28,9 +29,11 @@
  *   6   full                the result has more than C points or order entries
  *   7   blank               the start call only: no contour holds a point
  *
- * They are tested in this order; the lowest wins. The place is, for 4, the first such
- * coordinate's place in the slice; for 5 zero (u32) or one (f64, u32 being enough);
- * for 6 C; otherwise 0. A call says which of these it can give.
+ * They are tested from the top of this table to its end, 13 between 3 and 4; the first that
+ * holds wins. The place is, for 13, M where the slice's length is wrong, else the number of
+ * the first contour whose layer is above 15; for 4 the first such coordinate's place in the
+ * slice; for 5 zero (u32) or one (f64, u32 being enough); for 6 C; otherwise 0. A call says
+ * which of these it can give.
  *
  * Slices. A slice is two arguments: the pointer to its first element, then the number
  * of its elements, a size_t. The pointer is aligned for its elements and not NULL, also
@@ -55,7 +58,8 @@ enum twillharbor_refusal {
     TWILLHARBOR_OFF_THE_PLATE = 4,
     TWILLHARBOR_WORK_SHORT = 5,
     TWILLHARBOR_FULL = 6,
-    TWILLHARBOR_BLANK = 7
+    TWILLHARBOR_BLANK = 7,
+    TWILLHARBOR_BAD_LAYER = 13
 };
 
 struct twillharbor_distance_result {
@@ -82,12 +86,20 @@ struct twillharbor_distance_result twillharbor_distance(double ax, double ay, do
  *           following the last's
  * lengths   the M contours' numbers of points; zero is allowed and such a contour is
  *           skipped. A contour number is its place here, skipped ones counted
+ * layers    the M contours' layers, each 0 to 15, those of skipped contours too; zeros
+ *           where the plate has no layers
  * width, height   twice the centre
  * inside    the start strategy: Inside where true, Outside where false
  *
- * They only read points and lengths. Squared distances are those of the distance call.
- * Refusals 1 to 4 test points and lengths, before all else. Refusals 1 to 5 and 7 alter
- * no slice.
+ * Each call chooses one contour after the other, and chooses a contour only if none that
+ * waits has a lower layer. A contour waits that holds a point and was not chosen before: a
+ * skipped one never waits, whatever its layer. So a layer is drawn whole before the next, and
+ * along a path the layers of the cuts never fall. Where all layers are equal, which of them
+ * they are makes no difference.
+ *
+ * They only read points, lengths and layers. Squared distances are those of the distance
+ * call. Refusals 1 to 3, 13 and 4, in this order, test points, lengths and layers, before all
+ * else. Refusals 1 to 5, 7 and 13 alter no slice.
  */
 
 struct twillharbor_start_result {
@@ -98,15 +110,16 @@ struct twillharbor_start_result {
  * Which contour comes first, and its sense: `contour` is its number, `reversed` 1 if it is
  * reversed, else 0.
  *
- * Contours in order, first point before last: Outside takes a strictly larger squared
- * distance to the centre, Inside a strictly smaller one. A winning last point reverses the
- * contour.
+ * Of the contours of the lowest layer that waits, in order, first point before last: Outside
+ * takes a strictly larger squared distance to the centre, Inside a strictly smaller one. A
+ * winning last point reverses the contour.
  *
- * Refusals 1 to 4, then 7 where no contour holds a point.
+ * Refusals 1 to 3, 13 and 4, then 7 where no contour holds a point.
  */
 struct twillharbor_start_result twillharbor_start(
     const double *points, size_t points_length,
     const uint32_t *lengths, size_t lengths_length,
+    const uint32_t *layers, size_t layers_length,
     uint32_t width, uint32_t height, bool inside);
 
 struct twillharbor_order_result {
@@ -115,20 +128,22 @@ struct twillharbor_order_result {
 
 /*
  * The contours that hold a point, in the order in which straight joins them. The first is
- * the start call's. Then, from the last end, the strictly least squared distance wins;
- * forward where forward <= reverse; the lower contour on ties.
+ * the start call's. Then, of the lowest layer that waits, from the last end, the strictly
+ * least squared distance wins; forward where forward <= reverse; the lower contour on ties.
  *
  * order   holds afterwards two numbers an entry: the contour number, then 1 if it is
  *         reversed, else 0. C is half its length, rounded down
  * work    at least M numbers
  *
  * `entries` is the number of entries; beyond them the order slice is unaltered. Refusals 1
- * to 5, then 6 where there are more than C entries: the first C of them are then written
- * and nothing after them is altered. After a result or a 6 the work slice has free content.
+ * to 3, 13, 4 and 5, then 6 where there are more than C entries: the first C of them are then
+ * written and nothing after them is altered. After a result or a 6 the work slice has free
+ * content.
  */
 struct twillharbor_order_result twillharbor_order(
     const double *points, size_t points_length,
     const uint32_t *lengths, size_t lengths_length,
+    const uint32_t *layers, size_t layers_length,
     uint32_t width, uint32_t height, bool inside,
     uint32_t *order, size_t order_length,
     uint32_t *work, size_t work_length);
@@ -146,13 +161,14 @@ struct twillharbor_straight_result {
  * work    at least M numbers
  *
  * `points` is the number of path points; beyond them the path slice is unaltered. Refusals
- * 1 to 5, then 6 where there are more than C path points: the first C of them are then
- * written and nothing after them is altered. After a result or a 6 the work slice has free
- * content.
+ * 1 to 3, 13, 4 and 5, then 6 where there are more than C path points: the first C of them are
+ * then written and nothing after them is altered. After a result or a 6 the work slice has
+ * free content.
  */
 struct twillharbor_straight_result twillharbor_straight(
     const double *points, size_t points_length,
     const uint32_t *lengths, size_t lengths_length,
+    const uint32_t *layers, size_t layers_length,
     uint32_t width, uint32_t height, bool inside,
     double *path, size_t path_length,
     uint32_t *work, size_t work_length);
@@ -172,11 +188,12 @@ struct twillharbor_retrace_result {
 /*
  * The contours that hold a point, joined to one path that goes back over its own grooves to
  * where the next contour is near. It begins with the start call's contour, in its sense. As
- * long as contours wait, the one whose cached distance is least comes next, the lowest on
- * ties: the path walks back to the place that the search of the grid finds for the
- * contour's cached entry, jumps to that entry and draws the contour from there. From the
- * first point it goes forward, from the last backward; from another it goes up to the last,
- * back, and then down to the first. Grid, search, samples and caches are document 01's.
+ * long as contours wait, of those of the lowest layer that waits the one whose cached distance
+ * is least comes next, the lowest on ties: the path walks back to the place that the search of
+ * the grid finds for the contour's cached entry, jumps to that entry and draws the contour from
+ * there. From the first point it goes forward, from the last backward; from another it goes up
+ * to the last, back, and then down to the first. Grid, search, samples and caches are document
+ * 01's.
  *
  * path    holds afterwards each path point's horizontal, then its vertical coordinate, bit
  *         for bit those of a point
@@ -199,14 +216,15 @@ struct twillharbor_retrace_result {
  * each contour is cut once, and each contour that holds a point, but the first, is jumped to
  * once; a jump of length zero counts as a jump. Where no contour holds a point all four are 0.
  *
- * Refusals 1 to 5; the place of 5 is 0 where the work slice is short, and 1 where the
- * distances slice alone is. Then 6 where there are more than C path points, of which there may
- * be far more than points: the first C are then written with their marks, and nothing after
+ * Refusals 1 to 3, 13, 4 and 5; the place of 5 is 0 where the work slice is short, and 1 where
+ * the distances slice alone is. Then 6 where there are more than C path points, of which there
+ * may be far more than points: the first C are then written with their marks, and nothing after
  * them is altered. After a result or a 6 the work and distances slices have free content.
  */
 struct twillharbor_retrace_result twillharbor_retrace(
     const double *points, size_t points_length,
     const uint32_t *lengths, size_t lengths_length,
+    const uint32_t *layers, size_t layers_length,
     uint32_t width, uint32_t height, bool inside,
     double *path, size_t path_length,
     uint32_t *marks, size_t marks_length,

@@ -93,7 +93,7 @@ module _ (xs : List Float) (ns : List ℕ) (g : SpatialGrid) (room : ℕ) (lay :
   -- what settling asks for
   module _ (number : ℕ) (some : 0 < getD ns number 0) where
     p : Plate
-    p = plate xs ns 0 0 Outside
+    p = plate xs ns [] 0 0 Outside
 
     pub emitted : (number < lay .contours) × (1 ≤ from w (lay .waiting) number)
         × (from w (lay .firsts) number + from w (lay .waiting) number ≤ lay .points)

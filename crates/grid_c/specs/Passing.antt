@@ -9,10 +9,10 @@ use lib.Ieee.{Float}
 use lib.ListN.{length}
 use borrow.Author.Tests.{ltb-true, leb-true}
 use Rattle.rules.specs.Tools.{sum}
-use Rattle.rules.specs.HandedOver.{Answer, gives, refuses, refusal, checked}
+use Rattle.rules.specs.HandedOver.{Answer, gives, refuses, refusal, checkedContours}
 use Rattle.rules.specs.GridAndNearest.{box}
 use Rattle.rules.specs.declared.Refusal.{Refusal}
-use Rattle.path.specs.Accepted.{Accepted, checked-gives}
+use Rattle.path.specs.Accepted.{Accepted, contours-gives}
 use Rattle.plate.specs.Refused.{not-given}
 use Rattle.bounds.specs.Boxes.{Sound, accepted-sound}
 use Rattle.grid_c.specs.Results.{given, accepted, hasRoom, hasQueryRoom}
@@ -27,11 +27,11 @@ pub record Gridded (xs : List Float) (ns : List ℕ) (n : ℕ) : Type 0 where
 
 pub gridded : (xs : List Float) (ns : List ℕ) (n : ℕ) → n ≡ accepted xs ns → 0 < n → Gridded xs ns n
 unfolding accepted given
-gridded xs ns n h l = go (checked xs ns (gives (sum ns))) refl h
+gridded xs ns n h l = go (checkedContours xs ns (gives (sum ns))) refl h
   where
-    go : (a : Answer ℕ) → checked xs ns (gives (sum ns)) ≡ a → n ≡ given a → Gridded xs ns n
+    go : (a : Answer ℕ) → checkedContours xs ns (gives (sum ns)) ≡ a → n ≡ given a → Gridded xs ns n
     go (gives m) e f =
-        let passed = checked-gives xs ns (gives (sum ns)) m e in
+        let passed = contours-gives xs ns (gives (sum ns)) m e in
         let total : sum ns ≡ m = ap given (passed .1) in
         record {
           plate = passed .0;

@@ -22,7 +22,7 @@ use grid::cell_number;
 use grid::cell_of;
 use grid::polyline_bounding_box;
 use plate::Checked;
-use plate::check;
+use plate::check_contours;
 use rules::Nearest;
 use rules::PathPlace;
 use rules::SpatialGrid;
@@ -35,7 +35,7 @@ use start::point_at;
 pub fn accepted_points(points: &[f64], lengths: &[u32]) -> u32
     ensures { λ r. ⌜ r ≡ accepted (now (points .entry)) (now (lengths .entry)) ⌝ }
 {
-    let checked = check(points, lengths);
+    let checked = check_contours(points, lengths);
     let Checked::Sound(n) = checked else {
         return 0;
     };

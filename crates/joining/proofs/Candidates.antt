@@ -6,13 +6,12 @@ use Prim.Native.Nat.{ℕ, _+_, _*_, _≤_, _<_}
 use native.Mathlib.Omega.{arith}
 use lib.Ieee.{Float}
 use lib.ListN.{length}
-use Rattle.rules.specs.Tools.{winner}
 use Rattle.rules.specs.HandedOver.{Plate, Contour}
 use Rattle.rules.specs.SamplesAndCache.{Waiting}
-use Rattle.rules.specs.RetraceAndMarks.{Step, closer, choose}
+use Rattle.rules.specs.RetraceAndMarks.{Step, closer, waitingLayer, choose}
 use Rattle.rules.specs.declared.SpatialGrid.{SpatialGrid}
 use Rattle.path.specs.Waiting.{Sane}
-use Rattle.path.specs.Winner.{winner-has}
+use Rattle.path.specs.Layers.{foremost-has}
 use Rattle.layout.specs.declared.Layout.{Layout}
 use Rattle.samples.specs.Owning.{sampled-length}
 use Rattle.samples.specs.Vertices.{vertexFrom}
@@ -22,10 +21,10 @@ use Rattle.start.specs.Oriented.{contourOf}
 use Rattle.joining.specs.Joining.{Joining}
 
 -- who is chosen waits
-pub some-waiting : (ws : List Waiting) (w : Waiting) → choose ws ≡ some w → 1 ≤ length ws
-unfolding choose winner
-some-waiting [] w e = let z : _≡_ {A = ℕ} 0 1 = cc in absurd (omega arith)
-some-waiting (x ∷ ws) w e = omega arith
+pub some-waiting : (p : Plate) (ws : List Waiting) (w : Waiting) → choose p ws ≡ some w → 1 ≤ length ws
+unfolding choose
+some-waiting p [] w e = absurd (foremost-has (waitingLayer p) closer (λ v. ⊥) [] tt w e)
+some-waiting p (x ∷ ws) w e = omega arith
 
 -- the code's contour c, entered at vertex v, is the waiting contour w
 pub record Enters (c : code.Contour) (v : ℕ) (w : Waiting) : Type 0 where
@@ -43,15 +42,15 @@ pub record Within (xs : List Float) (lay : Layout) (c : code.Contour) (v : ℕ) 
 
 module _ (p : Plate) (g : SpatialGrid) (lay : Layout) (room turn count : ℕ) (path : List Float) (ms work : List ℕ) (ds : List Float)
     (ws : List Waiting) (steps : List Step) (was : List Float) (marked : List ℕ)
-    (j : Joining p g lay room turn count path ms work ds ws steps was marked) (c : code.Contour) (v : ℕ) (w : Waiting) (chosen : choose ws ≡ some w)
+    (j : Joining p g lay room turn count path ms work ds ws steps was marked) (c : code.Contour) (v : ℕ) (w : Waiting) (chosen : choose p ws ≡ some w)
     (e : Enters c v w) where
   pub chosen-holds : Holds (p .points) g lay ds work w
   unfolding choose
-  chosen-holds = winner-has (Holds (p .points) g lay ds work) closer ws (j .lines .held) w chosen
+  chosen-holds = foremost-has (waitingLayer p) closer (Holds (p .points) g lay ds work) ws (j .lines .held) w chosen
 
   pub chosen-sane : Sane w
   unfolding choose
-  chosen-sane = winner-has Sane closer ws (j .sane) w chosen
+  chosen-sane = foremost-has (waitingLayer p) closer Sane ws (j .sane) w chosen
 
   pub within : Within (p .points) lay c v
   unfolding contourOf

@@ -29,12 +29,12 @@ abbrev pub waitingAfter : Plate → SpatialGrid → List Waiting → List Step �
 waitingAfter p g ws path w =
     map (update p g (pathPoints p (entered p g path w)) (cellsAround (vertexAt p (w .contour)) g (w .contour .last))) (without numberOf (numberOf w) ws)
 
-pub join-some : (p : Plate) (g : SpatialGrid) (n : ℕ) (ws : List Waiting) (path : List Step) (w : Waiting) → choose ws ≡ some w →
+pub join-some : (p : Plate) (g : SpatialGrid) (n : ℕ) (ws : List Waiting) (path : List Step) (w : Waiting) → choose p ws ≡ some w →
     joinAll p g (suc n) ws path ≡ joinAll p g n (waitingAfter p g ws path w) (entered p g path w)
 unfolding joinAll
 join-some p g n ws path w e = rw (e, joinAll)
 
-pub join-none : (p : Plate) (g : SpatialGrid) (n : ℕ) (ws : List Waiting) (path : List Step) → choose ws ≡ none → joinAll p g n ws path ≡ path
+pub join-none : (p : Plate) (g : SpatialGrid) (n : ℕ) (ws : List Waiting) (path : List Step) → choose p ws ≡ none → joinAll p g n ws path ≡ path
 unfolding joinAll
 join-none p g zero ws path e = refl
 join-none p g (suc n) ws path e = rw (e, joinAll)
@@ -43,7 +43,7 @@ begins-same : (path more : List Step) → more ≡ path → Begins path more
 begins-same path more e = ([], e ∙ sym (append-nil path))
 
 begins-step : (p : Plate) (g : SpatialGrid) (n : ℕ) → ((ws : List Waiting) (path : List Step) → Begins path (joinAll p g n ws path)) →
-    (ws : List Waiting) (path : List Step) (o : Option Waiting) → choose ws ≡ o → Begins path (joinAll p g (suc n) ws path)
+    (ws : List Waiting) (path : List Step) (o : Option Waiting) → choose p ws ≡ o → Begins path (joinAll p g (suc n) ws path)
 begins-step p g n h ws path none e = begins-same path _ (join-none p g (suc n) ws path e)
 begins-step p g n h ws path (some w) e =
     rw (join-some p g n ws path w e)
@@ -52,4 +52,4 @@ begins-step p g n h ws path (some w) e =
 pub join-begins : (p : Plate) (g : SpatialGrid) (n : ℕ) (ws : List Waiting) (path : List Step) → Begins path (joinAll p g n ws path)
 unfolding joinAll
 join-begins p g zero ws path = begins-same path _ refl
-join-begins p g (suc n) ws path = begins-step p g n (join-begins p g n) ws path (choose ws) refl
+join-begins p g (suc n) ws path = begins-step p g n (join-begins p g n) ws path (choose p ws) refl

@@ -9,11 +9,11 @@ use lib.ListN.{length, length-map, length-append}
 use Rattle.rules.specs.Tools.{without}
 use Rattle.rules.specs.HandedOver.{Plate, Contour, vertexAt}
 use Rattle.rules.specs.SamplesAndCache.{Waiting, update, cellsAround}
-use Rattle.rules.specs.RetraceAndMarks.{Step, pathPoints, closer, choose, numberOf, entered, joinAll}
+use Rattle.rules.specs.RetraceAndMarks.{Step, pathPoints, closer, waitingLayer, choose, numberOf, entered, joinAll}
 use Rattle.rules.specs.PathStatement.{Among}
 use Rattle.rules.specs.declared.SpatialGrid.{SpatialGrid}
 use Rattle.path.specs.Lists.{map-all, all-without}
-use Rattle.path.specs.Winner.{winner-has}
+use Rattle.path.specs.Layers.{foremost-has}
 use Rattle.path.specs.Contours.{among-all, others, length-others}
 use Rattle.path.specs.Waiting.{Sane, update-caching}
 use Rattle.path.specs.Joining as joining
@@ -59,7 +59,7 @@ module _ (p : Plate) (g : SpatialGrid) (lay : Layout) (room turn count : ℕ) (p
     drawn-flags f l = omega (arith, flags-still (p .points) g lay ds work work′ (j .prepared) above f l, j .flags f l)
 
   -- the contour w has entered, and does not wait
-  module _ (w : Waiting) (chosen : choose ws ≡ some w) where
+  module _ (w : Waiting) (chosen : choose p ws ≡ some w) where
     abbrev next : List Step
     next = entered p g steps w
 
@@ -72,7 +72,7 @@ module _ (p : Plate) (g : SpatialGrid) (lay : Layout) (room turn count : ℕ) (p
     among : Among (w .contour) (map joining.contourOf ws)
     unfolding choose
     among =
-        winner-has (λ v. Among (v .contour) (map joining.contourOf ws)) closer ws
+        foremost-has (waitingLayer p) closer (λ v. Among (v .contour) (map joining.contourOf ws)) ws
         (map-all (λ c. Among c (map joining.contourOf ws)) joining.contourOf ws (among-all _ (map joining.contourOf ws) (λ c m. m))) w chosen
 
     contours-after : map joining.contourOf after ≡ others (w .contour) (map joining.contourOf ws)

@@ -34,14 +34,14 @@ pub record Joining (p : Plate) (g : SpatialGrid) (lay : Layout) (room turn count
   pub wrote : Wrote (p .points) steps room count was path marked ms
 
 -- the slices hold some plate's waiting contours and path
-abbrev pub CanJoin : List Float → SpatialGrid → Layout → ℕ → ℕ → List Float → List ℕ → List ℕ → List Float → Type 0
-CanJoin xs g lay room count path ms work ds =
-    (p : Plate) × (ws : List Waiting) × (steps : List Step) × (was : List Float) × (marked : List ℕ) × (p .points ≡ xs)
-    × Joining p g lay room 0 count path ms work ds ws steps was marked
+abbrev pub CanJoin : List Float → List ℕ → SpatialGrid → Layout → ℕ → ℕ → List Float → List ℕ → List ℕ → List Float → Type 0
+CanJoin xs ls g lay room count path ms work ds =
+    (p : Plate) × (ws : List Waiting) × (steps : List Step) × (was : List Float) × (marked : List ℕ) × (p .points ≡ xs) × (p .layers ≡ ls)
+    × (lay .contours ≤ length ls) × Joining p g lay room 0 count path ms work ds ws steps was marked
 
 -- whichever they hold, the path is then that of the rules
-abbrev pub Joined : List Float → SpatialGrid → Layout → ℕ → ℕ → List Float → List ℕ → List ℕ → List Float → ℕ → List Float → List ℕ → Type 0
-Joined xs g lay room count path ms work ds r path′ ms′ =
-    (p : Plate) (ws : List Waiting) (steps : List Step) (was : List Float) (marked : List ℕ) → p .points ≡ xs →
+abbrev pub Joined : List Float → List ℕ → SpatialGrid → Layout → ℕ → ℕ → List Float → List ℕ → List ℕ → List Float → ℕ → List Float → List ℕ → Type 0
+Joined xs ls g lay room count path ms work ds r path′ ms′ =
+    (p : Plate) (ws : List Waiting) (steps : List Step) (was : List Float) (marked : List ℕ) → p .points ≡ xs → p .layers ≡ ls →
     Joining p g lay room 0 count path ms work ds ws steps was marked →
     Wrote xs (joinAll p g (length ws) ws steps) room r was path′ marked ms′

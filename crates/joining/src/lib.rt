@@ -166,7 +166,8 @@ fn set_up(
         × ((path : List Float) → Ready g path (now (work .exit)) 0)
         × ((k : ℕ) → k < lay .cells → from (now (work .exit)) (lay .flags) k ≡ 0)
         × ((p : Plate) → p .points ≡ now (points .entry) → p .lengths ≡ now (lengths .entry) →
-        Lines (now (points .entry)) g lay (now (distances .exit)) (now (work .exit)) (without numberOf number (map (waiting p g) (contours p)))) ⌝ }
+        Lines (now (points .entry)) g lay (now (distances .exit)) (now (work .exit)) (without numberOf number (map (waiting p g) (contours p))))
+        × (lay .contours ≡ length (now (lengths .entry))) ⌝ }
 {
     let cells = (g.cols as usize) * (g.rows as usize);
     let lay = laid_out(
@@ -193,14 +194,15 @@ fn join_waiting(
     distances: &mut [f64],
     lay: Layout,
     count: u32,
+    layers: &[u32],
 ) -> u32
-    requires { ⌜ CanJoin (now points) g lay room count (now path) (now marks) (now work) (now distances) ⌝ }
-    ensures { λ r. ⌜ Joined (now (points .entry)) g lay room count (now (path .entry)) (now (marks .entry)) (now (work .entry)) (now (distances .entry)) r (now (path .exit)) (now (marks .exit)) ⌝ }
+    requires { ⌜ CanJoin (now points) (now layers) g lay room count (now path) (now marks) (now work) (now distances) ⌝ }
+    ensures { λ r. ⌜ Joined (now (points .entry)) (now (layers .entry)) g lay room count (now (path .entry)) (now (marks .entry)) (now (work .entry)) (now (distances .entry)) r (now (path .exit)) (now (marks .exit)) ⌝ }
 {
     let mut k = count;
     let mut turn: u32 = 0;
     loop {
-        let Chosen::Candidate(c, v) = choose_waiting(&*distances, &*work, lay) else {
+        let Chosen::Candidate(c, v) = choose_waiting(&*distances, layers, &*work, lay) else {
             break;
         };
         turn += 1;
@@ -244,12 +246,14 @@ fn join_from(
     work: &mut [u32],
     distances: &mut [f64],
     s: Oriented,
+    layers: &[u32],
 ) -> u32
     requires { ⌜
         (Accepted (now points) (now lengths)) × (Sane g)
-        × (Lent room (now lengths) (now path) (now marks) (now work) (now distances)) × (Placed (now lengths) (contourOf (s .contour))) ⌝ }
+        × (Lent room (now lengths) (now path) (now marks) (now work) (now distances)) × (Placed (now lengths) (contourOf (s .contour)))
+        × (length (now layers) ≡ length (now lengths)) ⌝ }
     ensures { λ r. ⌜
-        ((p : Plate) → p .points ≡ now (points .entry) → p .lengths ≡ now (lengths .entry) →
+        ((p : Plate) → p .points ≡ now (points .entry) → p .lengths ≡ now (lengths .entry) → p .layers ≡ now (layers .entry) →
         Wrote (now (points .entry)) (retraceFrom p g (orientedOf s) (contours p)) room r (now (path .entry)) (now (path .exit)) (now (marks .entry)) (now (marks .exit))) ⌝ }
 {
     let c = s.contour;
@@ -291,6 +295,7 @@ fn join_from(
         &mut *distances,
         lay,
         count,
+        layers,
     )
 }
 
@@ -298,6 +303,7 @@ fn join_from(
 pub fn join_retrace(
     points: &[f64],
     lengths: &[u32],
+    layers: &[u32],
     width: u32,
     height: u32,
     strategy: StartPointStrategy,
@@ -307,12 +313,12 @@ pub fn join_retrace(
     work: &mut [u32],
     distances: &mut [f64],
 ) -> u32
-    requires { ⌜ (Accepted (now points) (now lengths)) × (Lent room (now lengths) (now path) (now marks) (now work) (now distances)) ⌝ }
+    requires { ⌜ (Accepted (now points) (now lengths)) × (Lent room (now lengths) (now path) (now marks) (now work) (now distances)) × (length (now layers) ≡ length (now lengths)) ⌝ }
     ensures { λ r. ⌜
-        Wrote (now (points .entry)) (retrace (plate (now (points .entry)) (now (lengths .entry)) width height strategy)) room r
+        Wrote (now (points .entry)) (retrace (plate (now (points .entry)) (now (lengths .entry)) (now (layers .entry)) width height strategy)) room r
         (now (path .entry)) (now (path .exit)) (now (marks .entry)) (now (marks .exit)) ⌝ }
 {
-    let lead = choose_start_contour(points, lengths, width, height, strategy);
+    let lead = choose_start_contour(points, lengths, layers, width, height, strategy);
     let Lead::Best(s) = lead else {
         return 0;
     };
@@ -327,5 +333,6 @@ pub fn join_retrace(
         &mut *work,
         &mut *distances,
         s,
+        layers,
     )
 }

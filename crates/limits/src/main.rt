@@ -1,6 +1,6 @@
-// Boundary runs of the table of refusals (document 01): for each case one line with its name, its number and its place, and the entries or
-// points where the call counts them. A line of the retrace call has the lengths of the path, marks, u32 work and f64 work slices, and
-// number, place, points, cuts, back-steps and jumps.
+// Boundary runs of the table of refusals (document 01, with document 02's bad layer): for each case one line with its name, its number and
+// its place, and the entries or points where the call counts them. A line of the retrace call has the lengths of the path, marks, u32 work
+// and f64 work slices, and number, place, points, cuts, back-steps and jumps.
 ghost use Prim.Native.Nat.{_≤_};
 use twillharbor::RetraceResult;
 use twillharbor::twillharbor_order;
@@ -26,12 +26,28 @@ fn show_count(number: u32, place: u32, count: u32) {
     io::write_all(1, b"\n");
 }
 
+// The start call, Outside, on a plate of 10 by 10. The order and the straight call below have the same plate.
+fn start(points: &[f64], lengths: &[u32], layers: &[u32]) {
+    let r = twillharbor_start(points, lengths, layers, 10, 10, false);
+    show(r.number, r.place);
+}
+
+fn order(points: &[f64], lengths: &[u32], layers: &[u32], entries: &mut [u32], work: &mut [u32]) {
+    let r = twillharbor_order(points, lengths, layers, 10, 10, false, entries, work);
+    show_count(r.number, r.place, r.entries);
+}
+
+fn straight(points: &[f64], lengths: &[u32], layers: &[u32], path: &mut [f64], work: &mut [u32]) {
+    let r = twillharbor_straight(points, lengths, layers, 10, 10, false, path, work);
+    show_count(r.number, r.place, r.points);
+}
+
 // The start call on one contour of two points.
 fn line_start(ax: f64, ay: f64, bx: f64, by: f64) {
     let points = [ax, ay, bx, by];
     let lengths = [2u32; 1];
-    let r = twillharbor_start(&points, &lengths, 10, 10, false);
-    show(r.number, r.place);
+    let layers = [0u32; 1];
+    start(&points, &lengths, &layers);
 }
 
 // The next float above 1,000,000, whose pattern is 4696837146684686336.
@@ -68,133 +84,132 @@ fn coordinates() {
 fn most_contours_start() {
     let points = [0.0f64; 0];
     let lengths = [0u32; 4096];
-    let r = twillharbor_start(&points, &lengths, 10, 10, false);
+    let layers = [0u32; 4096];
     io::write_all(1, b"start, 4096 empty contours");
-    show(r.number, r.place);
+    start(&points, &lengths, &layers);
 }
 
 fn most_contours_order() {
     let points = [0.0f64; 0];
     let lengths = [0u32; 4096];
-    let mut order = [0u32; 2];
+    let layers = [0u32; 4096];
+    let mut entries = [0u32; 2];
     let mut work = [0u32; 4096];
-    let r = twillharbor_order(&points, &lengths, 10, 10, false, &mut order, &mut work);
     io::write_all(1, b"order, 4096 empty contours, work 4096");
-    show_count(r.number, r.place, r.entries);
+    order(&points, &lengths, &layers, &mut entries, &mut work);
 }
 
 fn most_contours_short() {
     let points = [0.0f64; 0];
     let lengths = [0u32; 4096];
-    let mut order = [0u32; 2];
+    let layers = [0u32; 4096];
+    let mut entries = [0u32; 2];
     let mut work = [0u32; 4095];
-    let r = twillharbor_order(&points, &lengths, 10, 10, false, &mut order, &mut work);
     io::write_all(1, b"order, 4096 empty contours, work 4095");
-    show_count(r.number, r.place, r.entries);
+    order(&points, &lengths, &layers, &mut entries, &mut work);
 }
 
 fn too_many_contours_start() {
     let points = [0.0f64; 0];
     let lengths = [0u32; 4097];
-    let r = twillharbor_start(&points, &lengths, 10, 10, false);
+    let layers = [0u32; 4097];
     io::write_all(1, b"start, 4097 empty contours");
-    show(r.number, r.place);
+    start(&points, &lengths, &layers);
 }
 
 fn too_many_contours_order() {
     let points = [0.0f64; 0];
     let lengths = [0u32; 4097];
-    let mut order = [0u32; 2];
+    let layers = [0u32; 4097];
+    let mut entries = [0u32; 2];
     let mut work = [0u32; 4097];
-    let r = twillharbor_order(&points, &lengths, 10, 10, false, &mut order, &mut work);
     io::write_all(1, b"order, 4097 empty contours, work 4097");
-    show_count(r.number, r.place, r.entries);
+    order(&points, &lengths, &layers, &mut entries, &mut work);
 }
 
 fn most_points_start() {
     let points = [0.0f64; 131072];
     let lengths = [65536u32; 1];
-    let r = twillharbor_start(&points, &lengths, 10, 10, false);
+    let layers = [0u32; 1];
     io::write_all(1, b"start, 65536 points");
-    show(r.number, r.place);
+    start(&points, &lengths, &layers);
 }
 
 fn most_points_straight() {
     let points = [0.0f64; 131072];
     let lengths = [65536u32; 1];
+    let layers = [0u32; 1];
     let mut path = [0.0f64; 131072];
     let mut work = [0u32; 1];
-    let r = twillharbor_straight(&points, &lengths, 10, 10, false, &mut path, &mut work);
     io::write_all(1, b"straight, 65536 points, path 131072");
-    show_count(r.number, r.place, r.points);
+    straight(&points, &lengths, &layers, &mut path, &mut work);
 }
 
 fn most_points_full() {
     let points = [0.0f64; 131072];
     let lengths = [65536u32; 1];
+    let layers = [0u32; 1];
     let mut path = [0.0f64; 131070];
     let mut work = [0u32; 1];
-    let r = twillharbor_straight(&points, &lengths, 10, 10, false, &mut path, &mut work);
     io::write_all(1, b"straight, 65536 points, path 131070");
-    show_count(r.number, r.place, r.points);
+    straight(&points, &lengths, &layers, &mut path, &mut work);
 }
 
 fn too_many_points() {
     let points = [0.0f64; 131074];
     let lengths = [65537u32; 1];
-    let r = twillharbor_start(&points, &lengths, 10, 10, false);
+    let layers = [0u32; 1];
     io::write_all(1, b"start, 65537 points");
-    show(r.number, r.place);
+    start(&points, &lengths, &layers);
 }
 
 fn sums() {
     let points = [0.0f64; 0];
+    let layers = [0u32; 2];
     let twice = [4294967295u32; 2];
-    let r = twillharbor_start(&points, &twice, 10, 10, false);
     io::write_all(1, b"start, lengths 4294967295 and 4294967295");
-    show(r.number, r.place);
+    start(&points, &twice, &layers);
     let wrapped = [4294967295u32, 1];
-    let s = twillharbor_start(&points, &wrapped, 10, 10, false);
     io::write_all(1, b"start, lengths 4294967295 and 1, no point");
-    show(s.number, s.place);
+    start(&points, &wrapped, &layers);
 }
 
 fn miscounted() {
     let points = [0.0f64; 3];
     let lengths = [1u32; 1];
-    let r = twillharbor_start(&points, &lengths, 10, 10, false);
+    let layers = [0u32; 1];
     io::write_all(1, b"start, length 1, 3 coordinates");
-    show(r.number, r.place);
+    start(&points, &lengths, &layers);
 }
 
 fn no_room() {
     let points = [0.0f64; 2];
     let lengths = [1u32; 1];
-    let mut order = [0u32; 1];
+    let layers = [0u32; 1];
+    let mut entries = [0u32; 1];
     let mut work = [0u32; 1];
-    let r = twillharbor_order(&points, &lengths, 10, 10, false, &mut order, &mut work);
     io::write_all(1, b"order, 1 contour, order slice 1");
-    show_count(r.number, r.place, r.entries);
+    order(&points, &lengths, &layers, &mut entries, &mut work);
 }
 
 fn order_work_short() {
     let points = [0.0f64; 4];
     let lengths = [1u32; 2];
-    let mut order = [0u32; 4];
+    let layers = [0u32; 2];
+    let mut entries = [0u32; 4];
     let mut work = [0u32; 1];
-    let r = twillharbor_order(&points, &lengths, 10, 10, false, &mut order, &mut work);
     io::write_all(1, b"order, 2 contours, work 1");
-    show_count(r.number, r.place, r.entries);
+    order(&points, &lengths, &layers, &mut entries, &mut work);
 }
 
 fn straight_work_short() {
     let points = [0.0f64; 4];
     let lengths = [1u32; 2];
+    let layers = [0u32; 2];
     let mut path = [0.0f64; 4];
     let mut work = [0u32; 1];
-    let r = twillharbor_straight(&points, &lengths, 10, 10, false, &mut path, &mut work);
     io::write_all(1, b"straight, 2 contours, work 1");
-    show_count(r.number, r.place, r.points);
+    straight(&points, &lengths, &layers, &mut path, &mut work);
 }
 
 fn put(x: u64) {
@@ -228,6 +243,7 @@ fn retrace(
     name: &[u8],
     points: &[f64],
     lengths: &[u32],
+    layers: &[u32],
     path: usize,
     marks: usize,
     work: usize,
@@ -245,6 +261,7 @@ fn retrace(
     let r = twillharbor_retrace(
         points,
         lengths,
+        layers,
         0,
         0,
         true,
@@ -260,7 +277,8 @@ fn retrace(
 fn line_retrace(name: &[u8], ax: f64, by: f64) {
     let points = [ax, 0.0, 0.0, by];
     let lengths = [2u32; 1];
-    retrace(name, &points, &lengths, 4, 4, 16402, 1);
+    let layers = [0u32; 1];
+    retrace(name, &points, &lengths, &layers, 4, 4, 16402, 1);
 }
 
 fn coordinates_retrace() {
@@ -284,65 +302,153 @@ fn along(xs: &mut [f64]) {
 }
 
 // C = 0: u32 work of 8 x 4,096 + 16,384 is enough.
-fn empty_contours_retrace(name: &[u8], points: &[f64], lengths: &[u32]) {
-    retrace(name, points, lengths, 0, 0, 49152, 4096);
-    retrace(name, points, lengths, 0, 0, 49151, 4096);
-    retrace(name, points, lengths, 0, 0, 49152, 4095);
-    retrace(name, points, lengths, 0, 0, 49151, 4095);
+fn empty_contours_retrace(name: &[u8], points: &[f64], lengths: &[u32], layers: &[u32]) {
+    retrace(name, points, lengths, layers, 0, 0, 49152, 4096);
+    retrace(name, points, lengths, layers, 0, 0, 49151, 4096);
+    retrace(name, points, lengths, layers, 0, 0, 49152, 4095);
+    retrace(name, points, lengths, layers, 0, 0, 49151, 4095);
 }
 
 // The result has 4,096 points: C = 4,096 is enough, with u32 work of 4,096 + 4 x 4,096 + 8 x 4,096 + 16,384.
-fn single_points_retrace(name: &[u8], points: &[f64], lengths: &[u32]) {
-    retrace(name, points, lengths, 8192, 8192, 69632, 4096);
-    retrace(name, points, lengths, 8192, 8192, 69631, 4096);
-    retrace(name, points, lengths, 8192, 8192, 69632, 4095);
-    retrace(name, points, lengths, 8192, 8192, 69631, 4095);
-    retrace(name, points, lengths, 8191, 8192, 69631, 4096);
-    retrace(name, points, lengths, 8192, 8191, 69631, 4096);
-    retrace(name, points, lengths, 8191, 8192, 69630, 4096);
+fn single_points_retrace(name: &[u8], points: &[f64], lengths: &[u32], layers: &[u32]) {
+    retrace(name, points, lengths, layers, 8192, 8192, 69632, 4096);
+    retrace(name, points, lengths, layers, 8192, 8192, 69631, 4096);
+    retrace(name, points, lengths, layers, 8192, 8192, 69632, 4095);
+    retrace(name, points, lengths, layers, 8192, 8192, 69631, 4095);
+    retrace(name, points, lengths, layers, 8191, 8192, 69631, 4096);
+    retrace(name, points, lengths, layers, 8192, 8191, 69631, 4096);
+    retrace(name, points, lengths, layers, 8191, 8192, 69630, 4096);
 }
 
 fn most_contours_retrace() {
     let none = [0.0f64; 0];
     let empty = [0u32; 4096];
-    empty_contours_retrace(b"4096 empty contours", &none, &empty);
-    let more = [0u32; 4097];
-    retrace(b"4097 empty contours", &none, &more, 0, 0, 49160, 4097);
+    let layers = [0u32; 4096];
+    empty_contours_retrace(b"4096 empty contours", &none, &empty, &layers);
     let mut points = [0.0f64; 8192];
     along(&mut points);
     let single = [1u32; 4096];
-    single_points_retrace(b"4096 contours of a point", &points, &single);
+    single_points_retrace(b"4096 contours of a point", &points, &single, &layers);
+}
+
+fn too_many_contours_retrace() {
+    let points = [0.0f64; 0];
+    let lengths = [0u32; 4097];
+    let layers = [0u32; 4097];
+    retrace(
+        b"4097 empty contours",
+        &points,
+        &lengths,
+        &layers,
+        0,
+        0,
+        49160,
+        4097,
+    );
 }
 
 // The result has 65,536 points: C = 65,536 is enough, with u32 work of 65,536 + 4 x 65,536 + 8 + 16,384.
-fn one_contour_retrace(name: &[u8], points: &[f64], lengths: &[u32]) {
-    retrace(name, points, lengths, 131072, 131072, 344072, 1);
-    retrace(name, points, lengths, 131072, 131072, 344071, 1);
-    retrace(name, points, lengths, 131072, 131072, 344072, 0);
-    retrace(name, points, lengths, 131072, 131072, 344071, 0);
-    retrace(name, points, lengths, 131070, 131072, 344071, 1);
-    retrace(name, points, lengths, 131072, 131070, 344071, 1);
+fn one_contour_retrace(name: &[u8], points: &[f64], lengths: &[u32], layers: &[u32]) {
+    retrace(name, points, lengths, layers, 131072, 131072, 344072, 1);
+    retrace(name, points, lengths, layers, 131072, 131072, 344071, 1);
+    retrace(name, points, lengths, layers, 131072, 131072, 344072, 0);
+    retrace(name, points, lengths, layers, 131072, 131072, 344071, 0);
+    retrace(name, points, lengths, layers, 131070, 131072, 344071, 1);
+    retrace(name, points, lengths, layers, 131072, 131070, 344071, 1);
 }
 
 fn most_points_retrace() {
     let mut points = [0.0f64; 131072];
     along(&mut points);
     let lengths = [65536u32; 1];
-    one_contour_retrace(b"65536 points", &points, &lengths);
+    let layers = [0u32; 1];
+    one_contour_retrace(b"65536 points", &points, &lengths, &layers);
 }
 
 fn too_many_points_retrace() {
     let points = [0.0f64; 131074];
     let lengths = [65537u32; 1];
+    let layers = [0u32; 1];
     retrace(
         b"65537 points",
         &points,
         &lengths,
+        &layers,
         131072,
         131072,
         344072,
         1,
     );
+}
+
+// The four calls, with slices that are enough for one point in 4,096 contours: C = 1, with u32 work of 1 + 4 + 8 x 4,096 + 16,384.
+fn four_calls(name: &[u8], points: &[f64], lengths: &[u32], layers: &[u32]) {
+    let mut entries = [0u32; 2];
+    let mut path = [0.0f64; 2];
+    let mut work = [0u32; 4096];
+    io::write_all(1, b"start, ");
+    io::write_all(1, name);
+    start(points, lengths, layers);
+    io::write_all(1, b"order, ");
+    io::write_all(1, name);
+    order(points, lengths, layers, &mut entries, &mut work);
+    io::write_all(1, b"straight, ");
+    io::write_all(1, name);
+    straight(points, lengths, layers, &mut path, &mut work);
+    retrace(name, points, lengths, layers, 2, 2, 49157, 4096);
+}
+
+// 4,096 contours of which the last alone has a point.
+fn last_layers() {
+    let points = [0.0f64; 2];
+    let mut lengths = [0u32; 4096];
+    lengths[4095] = 1;
+    let mut layers = [0u32; 4096];
+    layers[4095] = 15;
+    four_calls(b"layer 15 at 4095 of 4096", &points, &lengths, &layers);
+    layers[4095] = 16;
+    four_calls(b"layer 16 at 4095 of 4096", &points, &lengths, &layers);
+    layers[4094] = 16;
+    four_calls(b"layer 16 at 4094 and 4095", &points, &lengths, &layers);
+}
+
+// The place is the number of contours, even where the first layer is above 15.
+fn miscounted_layers() {
+    let points = [0.0f64; 2];
+    let mut lengths = [0u32; 4096];
+    lengths[4095] = 1;
+    let short = [0u32; 4095];
+    four_calls(b"4096 contours, 4095 layers", &points, &lengths, &short);
+    let long = [0u32; 4097];
+    four_calls(b"4096 contours, 4097 layers", &points, &lengths, &long);
+    let high = [16u32; 4095];
+    four_calls(
+        b"4096 contours, 4095 layers of 16",
+        &points,
+        &lengths,
+        &high,
+    );
+}
+
+// Refusals 1 and 2 are tested before the layers.
+fn layers_after_counts() {
+    let none = [0.0f64; 0];
+    let contours = [0u32; 4097];
+    let short = [16u32; 4096];
+    four_calls(
+        b"4097 empty contours, 4096 layers of 16",
+        &none,
+        &contours,
+        &short,
+    );
+    let high = [16u32; 4097];
+    four_calls(b"4097 empty contours of layer 16", &none, &contours, &high);
+    let points = [0.0f64; 131074];
+    let lengths = [65537u32; 1];
+    let no_layers = [0u32; 0];
+    four_calls(b"65537 points, no layer", &points, &lengths, &no_layers);
+    let one = [16u32; 1];
+    four_calls(b"65537 points of layer 16", &points, &lengths, &one);
 }
 
 fn main() {
@@ -363,6 +469,10 @@ fn main() {
     straight_work_short();
     coordinates_retrace();
     most_contours_retrace();
+    too_many_contours_retrace();
     most_points_retrace();
     too_many_points_retrace();
+    last_layers();
+    miscounted_layers();
+    layers_after_counts();
 }

@@ -2,22 +2,25 @@
 use mathlib.Core.Path.{_≡_, refl, sym, ap, _∙_}
 use mathlib.Core.Bool.{Bool, true, false}
 use mathlib.Core.List.{List}
-use Prim.Native.Nat.{ℕ, _+_}
+use Prim.Native.Nat.{ℕ, _+_, _<_, min}
 use native.Mathlib.Nat.{add-zero}
 use native.Mathlib.Omega.{arith}
+use native.Mathlib.Decide.{decLt}
 use lib.Ieee.{Float, le, lt}
-use mathlib.Core.Option.{Option, some}
+use mathlib.Core.Option.{Option, none, some}
 use Rattle.rules.specs.Tools.{pick, leads}
-use Rattle.rules.specs.HandedOver.{Plate, Contour, at, vertexAt}
+use Rattle.rules.specs.HandedOver.{Plate, Contour, at, vertexAt, layerAt}
 use Rattle.rules.specs.Distances.{distanceSquared}
 use Rattle.rules.specs.Start as definitions
-use Rattle.rules.specs.Start.{oriented}
+use Rattle.rules.specs.Start.{oriented, layerOf}
 use Rattle.rules.specs.OrderAndStraight.{nearerSense, nearerEnd}
 use Rattle.rules.specs.declared.Point.{Point}
+use Rattle.path.specs.Layers.{leadsIn, taking-low, taking-high, beats-lower, beats-higher, beats-alike}
+use Rattle.path.specs.Ordering.{nearer-contour}
 use Rattle.point.specs.Bound.{above-not-below}
 use Rattle.start.specs.Oriented.{orientedOf}
 use Rattle.start.specs.declared.Oriented.{Oriented}
-use Rattle.optimize.specs.Choice.{Stands}
+use Rattle.optimize.specs.Choice.{lowestOf, Stands}
 use Rattle.optimize.specs.declared.nearest.Choice.{Choice}
 use Rattle.optimize.specs.declared.nearest.Choice.the-variants.{At, Nothing}
 
@@ -59,3 +62,48 @@ pub passed-over : (p : Plate) (xs : List Float) (q a b : Point) (number first la
 unfolding vertexAt
 passed-over p xs q a b number first last best e x y f g =
     both-farther p q (record { number = number; first = first; last = last }) best (rw (e, add-zero first, ← x) f) (rw (e, ← y) g)
+
+-- ---- layers
+
+module _ (p : Plate) (q : Point) (c : Contour) where
+  same-layer : layerOf p (nearerSense p q c) ≡ layerAt p c
+  unfolding layerOf
+  same-layer = ap (layerAt p) (nearer-contour p q c)
+
+  pub lead-lower : (o : Option definitions.Oriented) → layerAt p c < lowestOf p o →
+      leads nearerEnd none (nearerSense p q c) ≡ leadsIn (layerOf p) nearerEnd o (nearerSense p q c)
+  unfolding leads leadsIn pick lowestOf
+  lead-lower none h = sym (taking-low (layerOf p) (nearerSense p q c) (omega (arith, same-layer)))
+  lead-lower (some best) h = rw (beats-lower (layerOf p) nearerEnd (nearerSense p q c) best (omega (arith, same-layer)))
+
+  pub lead-higher : (o : Option definitions.Oriented) → lowestOf p o < layerAt p c → o ≡ leadsIn (layerOf p) nearerEnd o (nearerSense p q c)
+  unfolding leads leadsIn pick lowestOf
+  lead-higher none h = sym (taking-high (layerOf p) (nearerSense p q c) (omega (arith, same-layer)))
+  lead-higher (some best) h = rw (beats-higher (layerOf p) nearerEnd (nearerSense p q c) best (omega (arith, same-layer)))
+
+  pub lead-alike : (o : Option definitions.Oriented) → layerAt p c ≡ lowestOf p o →
+      leads nearerEnd o (nearerSense p q c) ≡ leadsIn (layerOf p) nearerEnd o (nearerSense p q c)
+  unfolding leads leadsIn pick lowestOf
+  lead-alike none h = sym (taking-low (layerOf p) (nearerSense p q c) (omega (arith, same-layer)))
+  lead-alike (some best) h = rw (beats-alike (layerOf p) nearerEnd (nearerSense p q c) best (same-layer ∙ h))
+
+  -- of two of one layer either may lead
+  alike-lowest : (o : Option definitions.Oriented) → layerAt p c ≡ lowestOf p o → lowestOf p (leads nearerEnd o (nearerSense p q c)) ≡ lowestOf p o
+  unfolding leads lowestOf pick
+  alike-lowest none h = same-layer ∙ h
+  alike-lowest (some best) h = go (nearerEnd (nearerSense p q c) best)
+    where
+      go : (b : Bool) → lowestOf p (pick b (some (nearerSense p q c)) (some best)) ≡ layerOf p best
+      go true = same-layer ∙ h
+      go false = refl
+
+  -- the layer of the choice after one more
+  pub lowest-after : (o : Option definitions.Oriented) → lowestOf p (leadsIn (layerOf p) nearerEnd o (nearerSense p q c)) ≡ min (lowestOf p o) (layerAt p c)
+  unfolding leads lowestOf
+  lowest-after o = go (decLt (lowestOf p o) (layerAt p c)) (decLt (layerAt p c) (lowestOf p o))
+    where
+      go : Dec (lowestOf p o < layerAt p c) → Dec (layerAt p c < lowestOf p o) →
+          lowestOf p (leadsIn (layerOf p) nearerEnd o (nearerSense p q c)) ≡ min (lowestOf p o) (layerAt p c)
+      go (yes h) d = omega (arith, ap (lowestOf p) (lead-higher o h))
+      go (no h) (yes k) = omega (arith, ap (lowestOf p) (lead-lower o k), same-layer)
+      go (no h) (no k) = let e : layerAt p c ≡ lowestOf p o = omega arith in omega (arith, ap (lowestOf p) (lead-alike o e), alike-lowest o e)

@@ -8,12 +8,13 @@ use native.Mathlib.Omega.{arith}
 use lib.ListN.{length, getD, drop, drop-of-length-le, length-map}
 use lib.Seq.{drop-cons}
 use lib.Ieee.{Float}
-use Rattle.rules.specs.Tools.{foldl, leads, winner, sum}
+use Rattle.rules.specs.Tools.{foldl}
 use Rattle.rules.specs.HandedOver.{Plate, Contour}
-use Rattle.rules.specs.Start.{Oriented}
+use Rattle.rules.specs.Start.{Oriented, layerOf}
 use Rattle.rules.specs.OrderAndStraight.{nearerSense, nearerEnd}
 use Rattle.rules.specs.declared.Point.{Point}
 use Rattle.path.specs.Lists.{All, all-at}
+use Rattle.path.specs.Layers.{leadsIn}
 use Rattle.start.specs.Oriented.{contourOf}
 use Rattle.start.specs.declared.Contour as code
 use Rattle.packed_contours.specs.Packed.{packed, numberIn, firstIn, Placed}
@@ -68,10 +69,10 @@ module _ (ns words : List ℕ) (cs : List Contour) (e : words ≡ map packed cs)
 -- ---- the scan
 
 abbrev pub scanned : Plate → Point → Option Oriented → List Contour → Option Oriented
-scanned p q b cs = foldl (leads nearerEnd) b (map (nearerSense p q) cs)
+scanned p q b cs = foldl (leadsIn (layerOf p) nearerEnd) b (map (nearerSense p q) cs)
 
 pub scan-step : (p : Plate) (q : Point) (b c : Option Oriented) (cs : List Contour) (i : ℕ) → i < length cs →
-    c ≡ leads nearerEnd b (nearerSense p q (getD cs i blank)) → scanned p q b (drop i cs) ≡ scanned p q c (drop (i + 1) cs)
+    c ≡ leadsIn (layerOf p) nearerEnd b (nearerSense p q (getD cs i blank)) → scanned p q b (drop i cs) ≡ scanned p q c (drop (i + 1) cs)
 scan-step p q b c cs i h e =
     ap (λ (xs : List Contour). scanned p q b xs) (drop-cons cs i blank h)
     ∙ ap (λ (x : Option Oriented). scanned p q x (drop (suc i) cs)) (sym e)

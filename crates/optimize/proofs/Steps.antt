@@ -2,7 +2,7 @@
 use mathlib.Core.Path.{_≡_, refl, sym, ap, ap₂, _∙_, subst}
 use mathlib.Core.Bool.{Bool, true, false}
 use mathlib.Core.List.{List, [], _∷_, _++_, map, append-assoc, append-nil}
-use mathlib.Core.Option.{Option, none, some, Option·none-ne-some}
+use mathlib.Core.Option.{none, some}
 use Prim.Native.Nat.{ℕ, zero, suc, _+_, _-_, _*_, _<_, _≤_}
 use native.Mathlib.Nat.{zero-add}
 use native.Mathlib.Omega.{arith}
@@ -11,20 +11,20 @@ use mathlib.Core.Logic.{_⊎_, inl, inr}
 use lib.Ieee.{le}
 use lib.ListN.{length, getD, take, drop, length-map, length-append}
 use lib.Seq.{take-at, drop-at, take-append-le, drop-append-le, drop-drop}
-use Rattle.rules.specs.Tools.{pick, winner, without}
+use Rattle.rules.specs.Tools.{pick, foremost, without}
 use Rattle.rules.specs.HandedOver.{Plate, Contour, contours}
-use Rattle.rules.specs.Start.{Oriented, oriented, start}
+use Rattle.rules.specs.Start.{Oriented, oriented, layerOf, start}
 use Rattle.rules.specs.OrderAndStraight.{lastEnd, nearerSense, nearerEnd, contourNumber, orderAfter, orderFrom, orderOf, order}
 use Rattle.rules.specs.PathStatement.{Among, IsContour}
 use Rattle.rules.specs.declared.Point.{Point}
 use Rattle.path.specs.Lists.{All, all-at, all-map, all-give, all-without}
-use Rattle.path.specs.Winner.{winner-has, winner-some}
+use Rattle.path.specs.Layers.{foremost-has}
 use Rattle.path.specs.Start.{start-is}
 use Rattle.path.specs.Contours.{all-among, Rising, others, others-at, rising-without, contours-rise}
 use Rattle.path.specs.Accepted.{Accepted}
 use Rattle.packed_contours.specs.Packed.{packed, packedSense, Placed}
 use Rattle.packed_contours.specs.Contours.{all-placed}
-use Rattle.optimize.specs.State.{State}
+use Rattle.optimize.specs.State.{State, Whole}
 use Rattle.optimize.proofs.Scan.{blank, getD-map, number-is, first-is}
 
 -- ---- a packed contour is one contour
@@ -104,23 +104,23 @@ sense-contour p q c = go (le (oriented p q false c .squared) (oriented p q true 
     go false = refl
 
 pub winner-placed : (p : Plate) (ns : List ℕ) (q : Point) (cs : List Contour) (t : Oriented) → All (Placed ns) cs →
-    winner nearerEnd (map (nearerSense p q) cs) ≡ some t → Placed ns (t .contour)
+    foremost (layerOf p) nearerEnd (map (nearerSense p q) cs) ≡ some t → Placed ns (t .contour)
 winner-placed p ns q cs t a e =
-    winner-has (λ (s : Oriented). Placed ns (s .contour)) nearerEnd (map (nearerSense p q) cs)
+    foremost-has (layerOf p) nearerEnd (λ (s : Oriented). Placed ns (s .contour)) (map (nearerSense p q) cs)
     (all-map (λ (s : Oriented). Placed ns (s .contour)) (nearerSense p q) cs
     (all-give _ _ (λ c h. subst (Placed ns) (sym (sense-contour p q c)) h) cs a)) t e
 
--- where contours wait, one wins
-pub no-winner : (p : Plate) (q : Point) (cs : List Contour) → 1 ≤ length cs → winner nearerEnd (map (nearerSense p q) cs) ≡ none → ⊥
-no-winner p q cs h e =
-    let w = winner-some nearerEnd (map (nearerSense p q) cs) (omega (arith, length-map cs (nearerSense p q))) in
-    Option·none-ne-some (w .0) (sym e ∙ w .1)
-
-order-done : (p : Plate) (s : Oriented) → orderAfter p 0 [] s ≡ []
+-- where none wins, the order ends
+order-ends : (p : Plate) (m : ℕ) (cs : List Contour) (s : Oriented) → foremost (layerOf p) nearerEnd (map (nearerSense p (lastEnd p s)) cs) ≡ none → orderAfter p m cs s ≡ []
 unfolding orderAfter
-order-done p s = refl
+order-ends p zero cs s e = refl
+order-ends p (suc m) cs s e = rw (e, orderAfter)
 
-order-next : (p : Plate) (m : ℕ) (cs : List Contour) (s t : Oriented) → winner nearerEnd (map (nearerSense p (lastEnd p s)) cs) ≡ some t →
+order-done : (p : Plate) (cs : List Contour) (s : Oriented) → orderAfter p 0 cs s ≡ []
+unfolding orderAfter
+order-done p cs s = refl
+
+order-next : (p : Plate) (m : ℕ) (cs : List Contour) (s t : Oriented) → foremost (layerOf p) nearerEnd (map (nearerSense p (lastEnd p s)) cs) ≡ some t →
     orderAfter p (suc m) cs s ≡ t ∷ orderAfter p m (others (t .contour) cs) t
 unfolding orderAfter
 order-next p m cs s t e = rw (e, orderAfter)
@@ -136,7 +136,7 @@ module _ (p : Plate) (words : List ℕ) (n done : ℕ) (last : Oriented) (st : S
       ∙ take-at (map packed (st .left)) (st .tail) (length (map packed (st .left))) refl
 
   pub next-state : (i : ℕ) (t : Oriented) (after : List ℕ) → i < length (st .left) → getD (map packed (st .left)) i 0 ≡ packed (t .contour) →
-      winner nearerEnd (map (nearerSense p (lastEnd p last)) (st .left)) ≡ some t →
+      foremost (layerOf p) nearerEnd (map (nearerSense p (lastEnd p last)) (st .left)) ≡ some t →
       after ≡ take done words ++ (packedSense t ∷ (take (done + i - done) (drop done words) ++ drop (done + i + 1) words)) →
       State p after n (done + 1) t
   next-state i t after h e w f =
@@ -226,20 +226,25 @@ first-state p words tail n k s after a e m b q h g f =
 
 -- ---- the whole order
 
-pub whole-order : (p : Plate) (words : List ℕ) (n done : ℕ) (last : Oriented) → State p words n done last → n ≤ done →
-    (done ≡ length (order p)) × (take done words ≡ map packedSense (order p))
-whole-order p words n done last st h = go (st .left) refl
-  where
-    go : (cs : List Contour) → st .left ≡ cs → (done ≡ length (order p)) × (take done words ≡ map packedSense (order p))
-    go (c ∷ cs) e = absurd (omega (arith, st .total, ap length e))
-    go [] e =
-        let r : order p ≡ st .ordered =
-        st .result ∙ ap (λ (ds : List Contour). st .ordered ++ orderAfter p (length ds) ds last) e ∙ ap (λ (ss : List Oriented). st .ordered ++ ss) (order-done p last) ∙ append-nil (st .ordered) in (
-          st .count ∙ ap length (sym r),
-          ap (take done) (st .parts)
-              ∙ take-at (map packedSense (st .ordered)) (map packed (st .left) ++ st .tail) done (length-map (st .ordered) packedSense ∙ sym (st .count))
-              ∙ ap (map packedSense) (sym r),
-        )
+module _ (p : Plate) (words : List ℕ) (n done : ℕ) (last : Oriented) (st : State p words n done last) where
+  whole : orderAfter p (length (st .left)) (st .left) last ≡ [] → Whole p words done
+  whole e =
+      let r : order p ≡ st .ordered = st .result ∙ ap (λ (ss : List Oriented). st .ordered ++ ss) e ∙ append-nil (st .ordered) in (
+        st .count ∙ ap length (sym r),
+        ap (take done) (st .parts)
+            ∙ take-at (map packedSense (st .ordered)) (map packed (st .left) ++ st .tail) done (length-map (st .ordered) packedSense ∙ sym (st .count))
+            ∙ ap (map packedSense) (sym r),
+      )
+
+  -- no contour waits
+  pub whole-order : n ≤ done → Whole p words done
+  whole-order h =
+      let e : length (st .left) ≡ 0 = omega (arith, st .total) in
+      whole (ap (λ (m : ℕ). orderAfter p m (st .left) last) e ∙ order-done p (st .left) last)
+
+  -- none of those that wait takes part
+  pub order-stops : foremost (layerOf p) nearerEnd (map (nearerSense p (lastEnd p last)) (st .left)) ≡ none → Whole p words done
+  order-stops e = whole (order-ends p (length (st .left)) (st .left) last e)
 
 pub no-order : (p : Plate) → start p ≡ none → order p ≡ []
 unfolding order orderOf

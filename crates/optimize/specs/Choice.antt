@@ -4,7 +4,9 @@ use mathlib.Core.List.{List}
 use mathlib.Core.Option.{Option, none, some}
 use Prim.Native.Nat.{ℕ, _<_}
 use lib.ListN.{length, getD}
-use Rattle.rules.specs.Start.{Oriented}
+use Rattle.rules.specs.Tools.{highestLayer}
+use Rattle.rules.specs.HandedOver.{Plate}
+use Rattle.rules.specs.Start.{Oriented, layerOf}
 use Rattle.start.specs.Oriented.{contourOf, orientedOf}
 use Rattle.packed_contours.specs.Packed.{packed}
 use Rattle.optimize.specs.declared.nearest.Choice.{Choice}
@@ -13,6 +15,11 @@ use Rattle.optimize.specs.declared.nearest.Choice.the-variants.{At, Noth
 unfoldable pub choiceOf : Choice → Option Oriented
 choiceOf (At i s) = some (orientedOf s)
 choiceOf Nothing = none
+
+-- the layer of what is chosen; where nothing is, the highest that takes part
+unfoldable pub lowestOf : Plate → Option Oriented → ℕ
+lowestOf p none = highestLayer
+lowestOf p (some s) = layerOf p s
 
 -- the chosen contour stands at its place, which is below n
 unfoldable pub Stands : List ℕ → ℕ → Choice → Type 0

@@ -3,7 +3,7 @@
 use mathlib.Core.Path.{_≡_}
 use mathlib.Core.List.{List, _++_, map}
 use Prim.Native.Nat.{ℕ, _+_}
-use lib.ListN.{length}
+use lib.ListN.{length, take}
 use Rattle.rules.specs.HandedOver.{Plate, Contour}
 use Rattle.rules.specs.Start.{Oriented}
 use Rattle.rules.specs.OrderAndStraight.{orderAfter, order}
@@ -27,7 +27,11 @@ pub record State (p : Plate) (words : List ℕ) (n done : ℕ) (last : Oriented)
   pub placed : All (Placed (p .lengths)) left
   pub at : Placed (p .lengths) (last .contour)
 
--- after one more step
+-- the work slice begins with the whole order, of `done` contours
+abbrev pub Whole : Plate → List ℕ → ℕ → Type 0
+Whole p words done = (done ≡ length (order p)) × (take done words ≡ map packedSense (order p))
+
+-- after one more step: where no contour that waits takes part, the order is whole
 unfoldable pub Continued : Plate → List ℕ → ℕ → ℕ → Next → Type 0
 Continued p words n done (Then t) = State p words n (done + 1) (orientedOf t)
-Continued p words n done Nothing = ⊥
+Continued p words n done Nothing = Whole p words done

@@ -78,24 +78,26 @@ fn put_first(work: &mut [u32], n: usize, s: Oriented)
     move_down(work, 0, k, packed_sense(s));
 }
 
-// Puts the contour that is nearest to the last one's end next.
+// Puts the contour of the lowest layer that is nearest to the last one's end next.
 fn put_next(
     points: &[f64],
     lengths: &[u32],
+    layers: &[u32],
     work: &mut [u32],
     n: usize,
     done: usize,
     last: Oriented,
 ) -> Next
     requires { ⌜ (length (now points) ≡ 2 * sum (now lengths)) × (n ≤ 4096) × (done < n) × (n ≤ length (now work))
-        × ((p : Plate) × (p .points ≡ now points) × (p .lengths ≡ now lengths) × State p (now work) n done (orientedOf last)) ⌝ }
+        × ((p : Plate) × (p .points ≡ now points) × (p .lengths ≡ now lengths) × (p .layers ≡ now layers) × State p (now work) n done (orientedOf last))
+        × (length (now layers) ≡ length (now lengths)) ⌝ }
     ensures { λ r. ⌜
-        ((p : Plate) → p .points ≡ now (points .entry) → p .lengths ≡ now (lengths .entry) → State p (now (work .entry)) n done (orientedOf last) →
+        ((p : Plate) → p .points ≡ now (points .entry) → p .lengths ≡ now (lengths .entry) → p .layers ≡ now (layers .entry) → State p (now (work .entry)) n done (orientedOf last) →
         Continued p (now (work .exit)) n done r) ⌝ }
 {
     let q = last_end(points, last);
     let w = &*work;
-    let choice = nearest_waiting(points, lengths, &w[done..n], q);
+    let choice = nearest_waiting(points, lengths, layers, &w[done..n], q);
     let Choice::At(i, t) = choice else {
         return Next::Nothing;
     };
@@ -107,18 +109,19 @@ fn put_next(
 pub fn optimize_path_order(
     points: &[f64],
     lengths: &[u32],
+    layers: &[u32],
     width: u32,
     height: u32,
     strategy: StartPointStrategy,
     work: &mut [u32],
 ) -> usize
-    requires { ⌜ (Accepted (now points) (now lengths)) × (length (now lengths) ≤ length (now work)) ⌝ }
+    requires { ⌜ (Accepted (now points) (now lengths)) × (length (now lengths) ≤ length (now work)) × (length (now layers) ≡ length (now lengths)) ⌝ }
     ensures { λ r. ⌜
-        (let p = plate (now (points .entry)) (now (lengths .entry)) width height strategy in
+        (let p = plate (now (points .entry)) (now (lengths .entry)) (now (layers .entry)) width height strategy in
         (r ≡ length (order p)) × (take r (now (work .exit)) ≡ map packedSense (order p))) ⌝ }
 {
     let n = list_contours(lengths, &mut *work);
-    let lead = choose_start_contour(points, lengths, width, height, strategy);
+    let lead = choose_start_contour(points, lengths, layers, width, height, strategy);
     let Lead::Best(s) = lead else {
         return 0;
     };
@@ -126,7 +129,7 @@ pub fn optimize_path_order(
     let mut last = s;
     let mut done: usize = 1;
     while done < n {
-        let next = put_next(points, lengths, &mut *work, n, done, last);
+        let next = put_next(points, lengths, layers, &mut *work, n, done, last);
         let Next::Then(t) = next else {
             break;
         };

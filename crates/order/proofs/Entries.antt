@@ -9,7 +9,8 @@ use Rattle.rules.specs.HandedOver.{Plate}
 use Rattle.rules.specs.Start.{Oriented}
 use Rattle.rules.specs.OrderAndStraight.{order, entries}
 use Rattle.path.specs.Lists.{All}
-use Rattle.path.specs.Accepted.{Accepted}
+use Rattle.path.specs.Accepted.{Accepted, Layered}
+use Rattle.path.specs.Start.{layered-part}
 use Rattle.path.specs.Ordering.{order-few}
 use Rattle.slices.specs.Over.{take-min}
 use Rattle.slices.specs.Pairs.{pairs, pairs-take}
@@ -29,12 +30,13 @@ entries-length (s ∷ ss) = omega (arith, entries-length ss)
 -- what a work slice holds once the contours are ordered
 pub record Ordered (p : Plate) (count : ℕ) (work : List ℕ) : Type 0 where
   pub accepted : Accepted (p .points) (p .lengths)
+  pub layered : Layered (length (p .lengths)) (p .layers)
   pub counted : count ≡ length (order p)
   pub words : take count work ≡ map packedSense (order p)
 
 module _ {p : Plate} {count : ℕ} {work : List ℕ} (o : Ordered p count work) where
   pub count-few : (count ≤ 4096) × (count ≤ length work)
-  count-few = (omega (arith, order-few p, o .counted, o .accepted .contours), words-there count work (order p) (o .counted) (o .words))
+  count-few = (omega (arith, order-few p (layered-part p (o .layered)), o .counted, o .accepted .contours), words-there count work (order p) (o .counted) (o .words))
 
   -- the entries of as many words as have room
   pub entries-first : (n room : ℕ) → n ≡ min count room → pairs numberIn senseIn (take n work) ≡ take (2 * room) (entries (order p))

@@ -33,6 +33,7 @@ fn write_entries(words: &[u32], order: &mut [u32])
 pub fn order_call(
     points: &[f64],
     lengths: &[u32],
+    layers: &[u32],
     width: u32,
     height: u32,
     strategy: StartPointStrategy,
@@ -40,17 +41,17 @@ pub fn order_call(
     work: &mut [u32],
 ) -> OrderAnswer
     ensures { λ r. ⌜
-        (let o = orderCall (plate (now (points .entry)) (now (lengths .entry)) width height strategy) (now (order .entry)) (length (now (work .entry))) in
+        (let o = orderCall (plate (now (points .entry)) (now (lengths .entry)) (now (layers .entry)) width height strategy) (now (order .entry)) (length (now (work .entry))) in
         (orderAnswer r ≡ o .answer) × (now (order .exit) ≡ o .order) × WorkKept (o .answer) (now (work .entry)) (now (work .exit))) ⌝ }
 {
-    let checked = check(points, lengths);
+    let checked = check(points, lengths, layers);
     if let Checked::Unsound(r) = checked {
         return OrderAnswer::NoOrder(r);
     }
     if work.len() < lengths.len() {
         return OrderAnswer::NoOrder(Refusal::WorkShort(0));
     }
-    let count = optimize_path_order(points, lengths, width, height, strategy, work);
+    let count = optimize_path_order(points, lengths, layers, width, height, strategy, work);
     let room = order.len() / 2;
     let written = least(count, room);
     write_entries(&work[..written], order);

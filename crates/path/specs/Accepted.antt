@@ -1,16 +1,16 @@
--- What a call that gives a result has passed: refusals 1 to 4; and so the squared distances of the plate's points are finite, their signs plus.
+-- What a call that gives a result has passed: refusals 1 to 3, 13 and 4; and so the squared distances of the plate's points are finite, their signs plus.
 -- Assumes nothing.
 use mathlib.Core.Path.{_≡_, refl}
 use mathlib.Core.Bool.{Bool, true, false}
 use mathlib.Core.List.{List, [], _∷_}
 use Prim.Native.Nat.{ℕ, suc, _+_, _*_, _≤_, _<_}
 use native.Mathlib.Omega.{arith}
-use lib.Dec.{T}
+use lib.Dec.{T, leb}
 use lib.Ieee.{Float, nan}
 use lib.ListN.{length}
-use borrow.Author.Tests.{ltb-false, eqb-true, not-false}
-use Rattle.rules.specs.Tools.{pick, sum}
-use Rattle.rules.specs.HandedOver.{Plate, at, Answer, gives, inRange, plateLimit, firstOff, refuseIf, checked}
+use borrow.Author.Tests.{ltb-false, leb-true, eqb-true, not-false}
+use Rattle.rules.specs.Tools.{pick, sum, highestLayer}
+use Rattle.rules.specs.HandedOver.{Plate, at, Answer, gives, inRange, plateLimit, firstOff, firstBad, refuseIf, counted, layered, onPlate, checkedContours, checked}
 use Rattle.rules.specs.Distances.{distanceSquared}
 use Rattle.path.specs.Lists.{All, all-at}
 use Rattle.path.specs.FloatOrder.{Plus}
@@ -36,6 +36,17 @@ first-off limit i (x ∷ xs) h = go (inRange limit x) (λ t. t) (first-off limit
     go true f rest l = (f tt, rest (omega arith))
     go false f rest l = absurd (omega arith)
 
+-- where the first contour with a layer above 15 is the number after the last, all are of a layer up to 15
+pub first-bad : (i : ℕ) (ls : List ℕ) → i + length ls ≤ firstBad i ls → All (λ l. l ≤ highestLayer) ls
+unfolding firstBad pick
+first-bad i [] h = tt
+first-bad i (l ∷ ls) h = go (leb l highestLayer) refl (first-bad (suc i) ls) h
+  where
+    go : (t : Bool) → leb l highestLayer ≡ t → (suc i + length ls ≤ firstBad (suc i) ls → All (λ l. l ≤ highestLayer) ls) →
+        i + suc (length ls) ≤ pick t (firstBad (suc i) ls) i → (l ≤ highestLayer) × All (λ l. l ≤ highestLayer) ls
+    go true e rest h = (leb-true l highestLayer e, rest (omega arith))
+    go false e rest h = absurd (omega arith)
+
 -- points and lengths that refusals 1 to 4 let pass
 pub record Accepted (xs : List Float) (ns : List ℕ) : Type 0 where
   pub contours : length ns ≤ 4096
@@ -43,22 +54,49 @@ pub record Accepted (xs : List Float) (ns : List ℕ) : Type 0 where
   pub counted : length xs ≡ 2 * sum ns
   pub on-plate : All OnPlate xs
 
-pub checked-gives : {A : Type 0} (xs : List Float) (ns : List ℕ) (later : Answer A) (c : A) → checked xs ns later ≡ gives c →
-    Accepted xs ns × (later ≡ gives c)
-unfolding checked
-checked-gives xs ns later c e =
+-- layers of m contours that refusal 13 lets pass
+pub record Layered (m : ℕ) (ls : List ℕ) : Type 0 where
+  pub counted : length ls ≡ m
+  pub shallow : All (λ l. l ≤ highestLayer) ls
+
+pub counted-gives : {A : Type 0} (xs : List Float) (ns : List ℕ) (later : Answer A) (c : A) → counted xs ns later ≡ gives c →
+    (length ns ≤ 4096) × (sum ns ≤ 65536) × (length xs ≡ 2 * sum ns) × (later ≡ gives c)
+unfolding counted
+counted-gives xs ns later c e =
     let e1 = refuse-gives _ _ _ _ c e in
     let e2 = refuse-gives _ _ _ _ c (e1 .1) in
     let e3 = refuse-gives _ _ _ _ c (e2 .1) in
-    let e4 = refuse-gives _ _ _ _ c (e3 .1) in (
+    (ltb-false 4096 (length ns) (e1 .0), ltb-false 65536 (sum ns) (e2 .0), eqb-true (length xs) (2 * sum ns) (not-false _ (e3 .0)), e3 .1)
+
+on-plate-gives : {A : Type 0} (xs : List Float) (later : Answer A) (c : A) → onPlate xs later ≡ gives c → All OnPlate xs × (later ≡ gives c)
+unfolding onPlate
+on-plate-gives xs later c e =
+    let e1 = refuse-gives _ _ _ _ c e in
+    (first-off plateLimit 0 xs (omega (arith, ltb-false (firstOff plateLimit 0 xs) (length xs) (e1 .0))), e1 .1)
+
+pub checked-gives : {A : Type 0} (xs : List Float) (ns ls : List ℕ) (later : Answer A) (c : A) → checked xs ns ls later ≡ gives c →
+    Accepted xs ns × Layered (length ns) ls × (later ≡ gives c)
+unfolding checked layered
+checked-gives xs ns ls later c e =
+    let n = counted-gives xs ns _ c e in
+    let e1 = refuse-gives _ _ _ _ c (n .3) in
+    let e2 = refuse-gives _ _ _ _ c (e1 .1) in
+    let p = on-plate-gives xs later c (e2 .1) in (
+      record { contours = n .0; points = n .1; counted = n .2; on-plate = p .0 },
       record {
-        contours = ltb-false 4096 (length ns) (e1 .0);
-        points = ltb-false 65536 (sum ns) (e2 .0);
-        counted = eqb-true (length xs) (2 * sum ns) (not-false _ (e3 .0));
-        on-plate = first-off plateLimit 0 xs (omega (arith, ltb-false (firstOff plateLimit 0 xs) (length xs) (e4 .0)));
+        counted = eqb-true (length ls) (length ns) (not-false _ (e1 .0));
+        shallow = first-bad 0 ls (omega (arith, ltb-false (firstBad 0 ls) (length ls) (e2 .0)));
       },
-      e4 .1,
+      p .1,
     )
+
+pub contours-gives : {A : Type 0} (xs : List Float) (ns : List ℕ) (later : Answer A) (c : A) → checkedContours xs ns later ≡ gives c →
+    Accepted xs ns × (later ≡ gives c)
+unfolding checkedContours
+contours-gives xs ns later c e =
+    let n = counted-gives xs ns _ c e in
+    let p = on-plate-gives xs later c (n .3) in
+    (record { contours = n .0; points = n .1; counted = n .2; on-plate = p .0 }, p .1)
 
 -- ---- points and distances
 

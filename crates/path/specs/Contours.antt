@@ -137,6 +137,20 @@ pub all-contours : (p : Plate) → All (IsContour p) (contours p)
 unfolding IsContour
 all-contours p = among-all (IsContour p) (contours p) (λ c m. m)
 
+-- a vertex is of one contour only
+one-of : (cs : List Contour) → Rising cs → (c d : Contour) (v : ℕ) → Among c cs → Among d cs → Of c v → Of d v → c ≡ d
+one-of [] r c d v m n a b = absurd m
+one-of (x ∷ xs) r c d v (inl e) (inl f) a b = sym e ∙ f
+one-of (x ∷ xs) r c d v (inl e) (inr n) a b =
+    let h = subst (λ (y : Contour). After y d) e (all-among (After x) xs (r .0) d n) in absurd (omega (arith, h .vertices))
+one-of (x ∷ xs) r c d v (inr m) (inl f) a b =
+    let h = subst (λ (y : Contour). After y c) f (all-among (After x) xs (r .0) c m) in absurd (omega (arith, h .vertices))
+one-of (x ∷ xs) r c d v (inr m) (inr n) a b = one-of xs (r .1) c d v m n a b
+
+pub contour-one : (p : Plate) (c d : Contour) (v : ℕ) → IsContour p c → IsContour p d → Of c v → Of d v → c ≡ d
+unfolding IsContour
+contour-one p c d v m n a b = one-of (contours p) (contours-rise p) c d v m n a b
+
 -- a contour's vertices are vertices of the plate
 pub contour-in : (p : Plate) (c : Contour) → IsContour p c → c .first + c .last < sum (p .lengths)
 unfolding IsContour contours
@@ -152,3 +166,15 @@ segments-from j v (suc n ∷ ns) = omega (arith, segments-from (suc j) (v + suc 
 pub sum-segments : (p : Plate) → sum (map (λ c. c .last) (contours p)) + length (contours p) ≡ sum (p .lengths)
 unfolding contours
 sum-segments p = segments-from 0 0 (p .lengths)
+
+-- ---- their numbers
+
+numbers-from : (j v : ℕ) (ns : List ℕ) → All (λ c. c .number < j + length ns) (contoursFrom j v ns)
+unfolding contoursFrom
+numbers-from j v [] = tt
+numbers-from j v (zero ∷ ns) = all-give _ _ (λ c h. omega arith) (contoursFrom (suc j) v ns) (numbers-from (suc j) v ns)
+numbers-from j v (suc n ∷ ns) = (omega arith, all-give _ _ (λ c h. omega arith) (contoursFrom (suc j) (v + suc n) ns) (numbers-from (suc j) (v + suc n) ns))
+
+pub contours-numbered : (p : Plate) → All (λ c. c .number < length (p .lengths)) (contours p)
+unfolding contours
+contours-numbered p = all-give _ _ (λ c h. omega arith) (contours p) (numbers-from 0 0 (p .lengths))

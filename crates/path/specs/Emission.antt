@@ -126,54 +126,79 @@ module _ (p : Plate) (c : Contour) (i : IsContour p c) (path : List Step) (e : �
           let z : c .first + e ≡ c .first + c .last = omega (arith, eqb-true e (c .last) y) in (rw z at j, backward-rest p c i path jumpKind)
       go false x false y = both-chain j
 
--- ---- whose vertices they have
+-- ---- what all steps of a contour have
 
+-- Q of each step that lands on c, or cuts or takes back a segment of c
+pub record Steps (c : Contour) (Q : Step → Type 0) : Type 0 where
+  pub landing : (kind v : ℕ) → Of c v → Q (land kind v)
+  pub up : (v : ℕ) → Of c v → Of c (suc v) → Q (cutUp v)
+  pub down : (v : ℕ) → Of c v → Of c (suc v) → Q (cutDown v)
+  pub back : (v k : ℕ) → Of c v → Q (backStep v k)
+
+module _ (c : Contour) (Q : Step → Type 0) (q : Steps c Q) where
+  ups-have : (f : ℕ → Step) (a n : ℕ) → ((i : ℕ) → a ≤ i → i < a + n → Q (f i)) → All Q (map f (upFrom a n))
+  ups-have f a n h = all-map Q f (upFrom a n) (all-upFrom (λ i. Q (f i)) a n h)
+
+  downs-have : (f : ℕ → Step) (a n : ℕ) → ((i : ℕ) → a ≤ i → i < a + n → Q (f i)) → All Q (map f (downTo a n))
+  downs-have f a n h = all-map Q f (downTo a n) (all-downTo (λ i. Q (f i)) a n h)
+
+  forward-has : (kind : ℕ) → All Q (forward kind c)
+  unfolding forward
+  forward-has kind = (
+    q .landing kind (c .first) (omega arith, omega arith),
+    ups-have cutUp (c .first) (c .last) (λ i x y. q .up i (omega arith, omega arith) (omega arith, omega arith)),
+  )
+
+  backward-has : (kind : ℕ) → All Q (backward kind c)
+  unfolding backward
+  backward-has kind = (
+    q .landing kind (c .first + c .last) (omega arith, omega arith),
+    downs-have cutDown (c .first) (c .last) (λ i x y. q .down i (omega arith, omega arith) (omega arith, omega arith)),
+  )
+
+  both-has : (e b : ℕ) → e ≤ c .last → All Q (bothWays c e b)
+  unfolding bothWays returnTo
+  both-has e b h =
+      let a = c .first + e in
+      let n = c .last - e in
+      all-append Q ((land jumpKind a ∷ map cutUp (upFrom a n)) ++ map (returnTo a b) (downTo 0 n)) (map cutDown (downTo (c .first) e))
+      (all-append Q (land jumpKind a ∷ map cutUp (upFrom a n)) (map (returnTo a b) (downTo 0 n))
+      (q .landing jumpKind a (omega arith, omega arith), ups-have cutUp a n (λ i x y. q .up i (omega arith, omega arith) (omega arith, omega arith)))
+      (downs-have (returnTo a b) 0 n (λ i x y. q .back (a + i) (b + i) (omega arith, omega arith))))
+      (downs-have cutDown (c .first) e (λ i x y. q .down i (omega arith, omega arith) (omega arith, omega arith)))
+
+  pub emit-has : (e b : ℕ) → e ≤ c .last → All Q (emit c e b)
+  unfolding emit pick
+  emit-has e b h = go (eqb e 0) (eqb e (c .last))
+    where
+      go : (s t : Bool) → All Q (pick s (forward jumpKind c) (pick t (backward jumpKind c) (bothWays c e b)))
+      go true t = forward-has jumpKind
+      go false true = backward-has jumpKind
+      go false false = both-has e b h
+
+pub begin-has : (s : Oriented) (Q : Step → Type 0) → Steps (s .contour) Q → All Q (begin s)
+unfolding begin pick
+begin-has s Q q = go (s .reversed)
+  where
+    go : (b : Bool) → All Q (pick b (backward startKind (s .contour)) (forward startKind (s .contour)))
+    go true = backward-has (s .contour) Q q startKind
+    go false = forward-has (s .contour) Q q startKind
+
+-- they have its vertices
 abbrev pub StepOf : Contour → Step → Type 0
 StepOf c s = Of c (s .vertex)
 
-up-of : (c : Contour) (f : ℕ → Step) (a n : ℕ) → ((i : ℕ) → a ≤ i → i < a + n → StepOf c (f i)) → All (StepOf c) (map f (upFrom a n))
-up-of c f a n h = all-map (StepOf c) f (upFrom a n) (all-upFrom (λ i. StepOf c (f i)) a n h)
-
-down-of : (c : Contour) (f : ℕ → Step) (a n : ℕ) → ((i : ℕ) → a ≤ i → i < a + n → StepOf c (f i)) → All (StepOf c) (map f (downTo a n))
-down-of c f a n h = all-map (StepOf c) f (downTo a n) (all-downTo (λ i. StepOf c (f i)) a n h)
-
-forward-of : (c : Contour) (kind : ℕ) → All (StepOf c) (forward kind c)
-unfolding forward land cutUp
-forward-of c kind = ((omega arith, omega arith), up-of c cutUp (c .first) (c .last) (λ i x y. (omega arith, omega arith)))
-
-backward-of : (c : Contour) (kind : ℕ) → All (StepOf c) (backward kind c)
-unfolding backward land cutDown
-backward-of c kind = ((omega arith, omega arith), down-of c cutDown (c .first) (c .last) (λ i x y. (omega arith, omega arith)))
-
-both-of : (c : Contour) (e b : ℕ) → e ≤ c .last → All (StepOf c) (bothWays c e b)
-unfolding bothWays land cutUp cutDown returnTo backStep
-both-of c e b h =
-    let a = c .first + e in
-    let n = c .last - e in
-    all-append (StepOf c) ((land jumpKind a ∷ map cutUp (upFrom a n)) ++ map (returnTo a b) (downTo 0 n)) (map cutDown (downTo (c .first) e))
-    (all-append (StepOf c) (land jumpKind a ∷ map cutUp (upFrom a n)) (map (returnTo a b) (downTo 0 n))
-    ((omega arith, omega arith), up-of c cutUp a n (λ i x y. (omega arith, omega arith)))
-    (down-of c (returnTo a b) 0 n (λ i x y. (omega arith, omega arith))))
-    (down-of c cutDown (c .first) e (λ i x y. (omega arith, omega arith)))
+steps-of : (c : Contour) → Steps c (StepOf c)
+unfolding land cutUp cutDown backStep
+steps-of c = record { landing = λ kind v o. o; up = λ v o n. n; down = λ v o n. o; back = λ v k o. o }
 
 pub emit-of : (c : Contour) (e b : ℕ) → e ≤ c .last → All (StepOf c) (emit c e b)
-unfolding emit pick
-emit-of c e b h = go (eqb e 0) (eqb e (c .last))
-  where
-    go : (s t : Bool) → All (StepOf c) (pick s (forward jumpKind c) (pick t (backward jumpKind c) (bothWays c e b)))
-    go true t = forward-of c jumpKind
-    go false true = backward-of c jumpKind
-    go false false = both-of c e b h
-
--- ---- the start
+emit-of c = emit-has c (StepOf c) (steps-of c)
 
 pub begin-of : (s : Oriented) → All (StepOf (s .contour)) (begin s)
-unfolding begin pick
-begin-of s = go (s .reversed)
-  where
-    go : (b : Bool) → All (StepOf (s .contour)) (pick b (backward startKind (s .contour)) (forward startKind (s .contour)))
-    go true = backward-of (s .contour) startKind
-    go false = forward-of (s .contour) startKind
+begin-of s = begin-has s (StepOf (s .contour)) (steps-of (s .contour))
+
+-- ---- the start
 
 pub begin-divided : (p : Plate) (s : Oriented) → IsContour p (s .contour) → Divided p (begin s)
 unfolding begin pick forward backward land OfContour

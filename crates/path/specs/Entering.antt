@@ -20,6 +20,7 @@ use Rattle.path.specs.FloatOrder.{Plus}
 use Rattle.path.specs.Accepted.{OfPlate, Measurable}
 use Rattle.path.specs.Nearest.{pointOf, gridFor, foundFor, found-in, found-nearest}
 use Rattle.path.specs.Contours.{all-among, Apart, apart-not-of, others, others-apart, contours-rise, contour-in}
+use Rattle.path.specs.Start.{AllTakePart}
 use Rattle.path.specs.Joining.{Begins, Enters, retrace-keeps}
 use Rattle.path.specs.Pairs.{vertex-old, vertex-new, Divided, divided-append, divided-some}
 use Rattle.path.specs.Runs.{Ends}
@@ -155,7 +156,7 @@ of-plate p c i v o = omega (arith, contour-in p c i)
 module _ (p : Plate) (m : Measurable p) where
   begins : Begins p (Joined p)
   unfolding IsContour
-  begins s i =
+  begins s i low =
       let c = s .contour in
       let free : (x : Contour) → Apart c x → FreeOf x (begin s) =
       λ x a. all-give (StepOf c) _ (λ z o. apart-not-of c x a (z .vertex) o) (begin s) (begin-of s) in
@@ -166,7 +167,7 @@ module _ (p : Plate) (m : Measurable p) where
       }
 
   enters : Enters p (Joined p)
-  enters cs path w coming a e j =
+  enters cs path w coming a low e j =
       let c = w .contour in
       let i = all-among (IsContour p) cs (coming .all) c a in
       let f = all-among (λ x. FreeOf x path) cs (j .free) c a in
@@ -182,5 +183,5 @@ module _ (p : Plate) (m : Measurable p) where
       }
 
   -- the whole path of a plate that has a contour
-  pub retrace-divided : 1 ≤ contourCount p → Divided p (retrace p)
-  retrace-divided h = retrace-keeps p (Joined p) begins enters h .divided
+  pub retrace-divided : AllTakePart p → 1 ≤ contourCount p → Divided p (retrace p)
+  retrace-divided t h = retrace-keeps p (Joined p) begins enters t h .divided

@@ -5,34 +5,35 @@ use mathlib.Core.Option.{some}
 use Prim.Native.Nat.{ℕ, zero, suc, _≤_}
 use native.Mathlib.Omega.{arith}
 use lib.ListN.{length, length-map}
-use Rattle.rules.specs.Tools.{without}
-use Rattle.rules.specs.HandedOver.{Plate, Contour, contours, vertexAt}
+use Rattle.rules.specs.Tools.{without, highestLayer}
+use Rattle.rules.specs.HandedOver.{Plate, Contour, contours, vertexAt, layerAt}
 use Rattle.rules.specs.Start.{Oriented}
 use Rattle.rules.specs.SamplesAndCache.{Waiting, waiting, seed, update, cellsAround}
-use Rattle.rules.specs.RetraceAndMarks.{Step, begin, pathPoints, closer, choose, numberOf, entered, joinAll, retraceFrom, retraceOf, retrace}
+use Rattle.rules.specs.RetraceAndMarks.{Step, begin, pathPoints, closer, waitingLayer, choose, numberOf, entered, joinAll, retraceFrom, retraceOf, retrace}
 use Rattle.rules.specs.OrderAndStraight.{contourNumber}
 use Rattle.rules.specs.PathStatement.{contourCount, Among, IsContour}
 use Rattle.rules.specs.declared.SpatialGrid.{SpatialGrid}
 use Rattle.path.specs.Lists.{All, all-of, all-give, all-map, map-all, all-without, map-without}
-use Rattle.path.specs.Winner.{winner-has, winner-some}
+use Rattle.path.specs.Layers.{foremost-has, foremost-some, foremost-low}
 use Rattle.path.specs.Nearest.{gridFor}
 use Rattle.path.specs.Contours.{among-all, Rising, others, rising-without, length-others, contours-rise, all-contours}
 use Rattle.path.specs.Waiting.{Sane, waiting-sane, Caching, seed-caching, update-caching}
-use Rattle.path.specs.Start.{start-some, start-is}
+use Rattle.path.specs.Start.{AllTakePart, start-some, NoneLower, start-low, start-is}
 
 -- contours still to come: they are the plate's, and they rise
 pub record Coming (p : Plate) (cs : List Contour) : Type 0 where
   pub all : All (IsContour p) cs
   pub rising : Rising cs
 
--- P says something of the contours still to come and of the path so far. It holds of the start, whichever contour that is;
+-- P says something of the contours still to come and of the path so far. It holds of the start, whichever contour that is, if none
+-- is of a lower layer;
 abbrev pub Begins : Plate → (List Contour → List Step → Type 0) → Type 0
-Begins p P = (s : Oriented) → IsContour p (s .contour) → P (others (s .contour) (contours p)) (begin s)
+Begins p P = (s : Oriented) → IsContour p (s .contour) → NoneLower p (s .contour) (contours p) → P (others (s .contour) (contours p)) (begin s)
 
--- and it is kept where one of those contours enters the path, at whichever of its vertices.
+-- and it is kept where one of those contours enters the path, none being of a lower layer, at whichever of its vertices.
 abbrev pub Enters : Plate → (List Contour → List Step → Type 0) → Type 0
 Enters p P =
-    (cs : List Contour) (path : List Step) (w : Waiting) → Coming p cs → Among (w .contour) cs → w .kept .entry ≤ w .contour .last →
+    (cs : List Contour) (path : List Step) (w : Waiting) → Coming p cs → Among (w .contour) cs → NoneLower p (w .contour) cs → w .kept .entry ≤ w .contour .last →
     P cs path → P (others (w .contour) cs) (entered p (gridFor p) path w)
 
 -- ---- the contours of those that wait
@@ -55,6 +56,11 @@ module _ (f : Waiting → Waiting) (h : Caching f) where
   contours-cached [] = refl
   contours-cached (w ∷ ws) = rw (h .contour w, contours-cached ws)
 
+  part-cached : (p : Plate) (ws : List Waiting) → All (λ w. layerAt p (w .contour) ≤ highestLayer) ws → All (λ w. layerAt p (w .contour) ≤ highestLayer) (map f ws)
+  part-cached p ws a =
+      all-map (λ w. layerAt p (w .contour) ≤ highestLayer) f ws
+      (all-give _ (λ w. layerAt p (f w .contour) ≤ highestLayer) (λ w l. rw (h .contour w) l) ws a)
+
   pub sane-cached : (ws : List Waiting) → All Sane ws → All Sane (map f ws)
   sane-cached ws a = all-map Sane f ws (all-give Sane (λ w. Sane (f w)) (h .sane) ws a)
 
@@ -67,16 +73,17 @@ module _ (p : Plate) (P : List Contour → List Step → Type 0) (begins : Begin
   -- n more contours, which are all that wait
   abbrev Keeps : ℕ → List Waiting → List Step → Type 0
   Keeps n ws path =
-      length ws ≡ n → All Sane ws → Coming p (map contourOf ws) → P (map contourOf ws) path → P [] (joinAll p (gridFor p) n ws path)
+      length ws ≡ n → All (λ w. layerAt p (w .contour) ≤ highestLayer) ws → All Sane ws → Coming p (map contourOf ws) → P (map contourOf ws) path → P [] (joinAll p (gridFor p) n ws path)
 
   -- w is chosen: one contour less waits afterwards
   join-one : (n : ℕ) → ((ws : List Waiting) (path : List Step) → Keeps n ws path) → (ws : List Waiting) (path : List Step) (w : Waiting) →
-      choose ws ≡ some w → Keeps (suc n) ws path
-  unfolding joinAll choose numberOf
-  join-one n join ws path w chosen l sane coming h =
+      choose p ws ≡ some w → Keeps (suc n) ws path
+  unfolding joinAll choose numberOf waitingLayer
+  join-one n join ws path w chosen l part sane coming h =
       let cs = map contourOf ws in
       let all-among = map-all (λ c. Among c cs) contourOf ws (among-all _ cs (λ c m. m)) in
-      let among = winner-has (λ v. Among (v .contour) cs) closer ws all-among w chosen in
+      let among = foremost-has (waitingLayer p) closer (λ v. Among (v .contour) cs) ws all-among w chosen in
+      let low = all-map (λ d. layerAt p (w .contour) ≤ layerAt p d) contourOf ws (foremost-low (waitingLayer p) closer ws w chosen) in
       let next = entered p (gridFor p) path w in
       let cells = cellsAround (vertexAt p (w .contour)) (gridFor p) (w .contour .last) in
       let f = update p (gridFor p) (pathPoints p next) cells in
@@ -86,20 +93,20 @@ module _ (p : Plate) (P : List Contour → List Step → Type 0) (begins : Begin
       let m : length (map f rest) ≡ n =
       omega (arith, length-map (map f rest) contourOf, ap length q, length-others (w .contour) cs (coming .rising) among, length-map ws contourOf) in
       rw (chosen, joinAll)
-      (join (map f rest) next m (sane-cached f caching rest (all-without Sane numberOf (numberOf w) ws sane))
+      (join (map f rest) next m (part-cached f caching p rest (all-without _ numberOf (numberOf w) ws part)) (sane-cached f caching rest (all-without Sane numberOf (numberOf w) ws sane))
       (rw q (coming-without p (w .contour .number) cs coming))
-      (rw q (enters cs path w coming among (winner-has Sane closer ws sane w chosen .entry) h)))
+      (rw q (enters cs path w coming among low (foremost-has (waitingLayer p) closer Sane ws sane w chosen .entry) h)))
 
   join-keeps : (n : ℕ) (ws : List Waiting) (path : List Step) → Keeps n ws path
-  unfolding joinAll choose
-  join-keeps zero [] path l sane coming h = h
-  join-keeps zero (w ∷ ws) path l sane coming h = absurd (omega arith)
-  join-keeps (suc n) ws path l sane coming h =
-      let c = winner-some closer ws (omega arith) in join-one n (join-keeps n) ws path (c .0) (c .1) l sane coming h
+  unfolding joinAll choose waitingLayer
+  join-keeps zero [] path l part sane coming h = h
+  join-keeps zero (w ∷ ws) path l part sane coming h = absurd (omega arith)
+  join-keeps (suc n) ws path l part sane coming h =
+      let c = foremost-some (waitingLayer p) closer ws (omega arith) part in join-one n (join-keeps n) ws path (c .0) (c .1) l part sane coming h
 
-  from-keeps : (s : Oriented) → IsContour p (s .contour) → P [] (retraceFrom p (gridFor p) s (contours p))
-  unfolding retraceFrom
-  from-keeps s i =
+  from-keeps : AllTakePart p → (s : Oriented) → IsContour p (s .contour) → NoneLower p (s .contour) (contours p) → P [] (retraceFrom p (gridFor p) s (contours p))
+  unfolding retraceFrom waiting
+  from-keeps t s i low =
       let n = s .contour .number in
       let all = map (waiting p (gridFor p)) (contours p) in
       let ws = without numberOf n all in
@@ -108,10 +115,12 @@ module _ (p : Plate) (P : List Contour → List Step → Type 0) (begins : Begin
       let sane = all-map Sane (waiting p (gridFor p)) (contours p) (all-of _ (waiting-sane p (gridFor p)) (contours p)) in
       let q : map contourOf (map f ws) ≡ others (s .contour) (contours p) =
       contours-cached f caching ws ∙ contours-without n all ∙ ap (without contourNumber n) (contours-waiting p (gridFor p) (contours p)) in
-      join-keeps (length ws) (map f ws) (begin s) (length-map ws f) (sane-cached f caching ws (all-without Sane numberOf n all sane))
-      (rw q (coming-without p n (contours p) (record { all = all-contours p; rising = contours-rise p }))) (rw q (begins s i))
+      join-keeps (length ws) (map f ws) (begin s) (length-map ws f)
+      (part-cached f caching p ws (all-without _ numberOf n all (all-map (λ w. layerAt p (w .contour) ≤ highestLayer) (waiting p (gridFor p)) (contours p) t)))
+      (sane-cached f caching ws (all-without Sane numberOf n all sane))
+      (rw q (coming-without p n (contours p) (record { all = all-contours p; rising = contours-rise p }))) (rw q (begins s i low))
 
-  -- a plate that has a contour: P holds of the whole path, with no contour to come
-  pub retrace-keeps : 1 ≤ contourCount p → P [] (retrace p)
+  -- a plate that has a contour, all taking part: P holds of the whole path, with no contour to come
+  pub retrace-keeps : AllTakePart p → 1 ≤ contourCount p → P [] (retrace p)
   unfolding retrace retraceOf
-  retrace-keeps h = let (s, e) = start-some p h in rw (e, retraceOf) (from-keeps s (start-is p s e))
+  retrace-keeps t h = let (s, e) = start-some p t h in rw (e, retraceOf) (from-keeps t s (start-is p s e) (start-low p s e))

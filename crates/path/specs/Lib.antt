@@ -1,6 +1,7 @@
 pub mod Lists
 pub mod Sums
 pub mod Winner
+pub mod Layers
 pub mod FloatOrder
 pub mod FiniteDistances
 pub mod Accepted
@@ -20,4 +21,6 @@ pub mod Shares
 pub mod Totals
 pub mod Slices
 pub mod Theorem
+pub mod NeverFall
+pub mod OneLayer
 pub mod Written

@@ -17,6 +17,7 @@ use Rattle.rules.specs.declared.SpatialGrid.{SpatialGrid}
 use Rattle.path.specs.Sums.{sum-append, sum-upFrom, sum-downTo}
 use Rattle.path.specs.Nearest.{gridFor}
 use Rattle.path.specs.Contours.{sum-others, contours-rise}
+use Rattle.path.specs.Start.{AllTakePart}
 use Rattle.path.specs.Joining.{retrace-keeps}
 
 -- what each step weighs: a cut by its segment, in either sense, each jump alike, back-steps and the start nothing
@@ -118,12 +119,12 @@ module _ (weight : Step → ℕ) (segment : ℕ → ℕ) (jump : ℕ) (h : Weigh
   -- ---- the whole path
 
   -- the sum over the path, and the jump that the start saves, is the sum over the contours
-  pub retrace-total : (p : Plate) → 1 ≤ contourCount p → jump + total (retrace p) ≡ sum (map (share segment jump) (contours p))
+  pub retrace-total : (p : Plate) → AllTakePart p → 1 ≤ contourCount p → jump + total (retrace p) ≡ sum (map (share segment jump) (contours p))
   unfolding sum IsContour
-  retrace-total p l =
+  retrace-total p t l =
       let f = share segment jump in
       let all = sum (map f (contours p)) in
       let e = retrace-keeps p (λ cs path. jump + total path + sum (map f cs) ≡ all)
-      (λ s i. omega (arith, begin-total s, sum-others f (s .contour) (contours p) (contours-rise p) i))
-      (λ cs path w coming a e k. omega (arith, entered-total p (gridFor p) path w e, sum-others f (w .contour) cs (coming .rising) a, k)) l in
+      (λ s i low. omega (arith, begin-total s, sum-others f (s .contour) (contours p) (contours-rise p) i))
+      (λ cs path w coming a low e k. omega (arith, entered-total p (gridFor p) path w e, sum-others f (w .contour) cs (coming .rising) a, k)) t l in
       omega (arith, e)

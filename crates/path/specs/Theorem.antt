@@ -35,24 +35,25 @@ use Rattle.rules.specs.Calls.{counts, vertices, retraceCall}
 use Rattle.rules.specs.PathStatement.{contourCount, vertexIn, Divides, PathStatement}
 use Rattle.rules.specs.declared.Counts.{Counts}
 use Rattle.path.specs.Accepted.{refuse-gives, Accepted, checked-gives, Measurable, accepted-measurable}
+use Rattle.path.specs.Start.{AllTakePart, layered-part}
 use Rattle.path.specs.Pairs.{pair-same, divided-some, divided-start, divided-pairs, divided-length}
 use Rattle.path.specs.Entering.{retrace-divided}
 use Rattle.path.specs.Totals.{retrace-cuts, retrace-jumps, retrace-once}
 use Rattle.path.specs.Slices.{coordinates-length, marks-length, vertices-length, kind-at, reference-at, coordinates-at, vertices-at, vertex-in}
 
 -- the path of document 01's rules, as slices
-pub retrace-divides : (p : Plate) → Measurable p → 1 ≤ contourCount p →
+pub retrace-divides : (p : Plate) → Measurable p → AllTakePart p → 1 ≤ contourCount p →
     Divides p (counts (retrace p)) (coordinates (p .points) (vertices (retrace p))) (marks (retrace p))
 unfolding counts
-retrace-divides p m h =
+retrace-divides p m t h =
     let path = retrace p in
-    let d = retrace-divided p m h in
+    let d = retrace-divided p m t h in
     let v = vertex-in p path d in
     let some = divided-some p path d in
     let start = divided-start p path d in
     let n = vertices-length path in
-    let cuts = retrace-cuts p h in
-    let jumps = retrace-jumps p h in
+    let cuts = retrace-cuts p t h in
+    let jumps = retrace-jumps p t h in
     record {
       whole = (omega (arith, coordinates-length (p .points) (vertices path)), marks-length path);
       coordinates = λ k l. rw (v k, ← vertices-at path k) (coordinates-at (p .points) (vertices path) k (omega arith));
@@ -64,22 +65,22 @@ retrace-divides p m h =
       cuts = cuts;
       jumps = jumps;
       all = omega (arith, divided-length p path d);
-      once = retrace-once p h;
+      once = retrace-once p t h;
     }
 
 -- what it means that the call answers with counts
-retrace-gives : (p : Plate) (path : List Float) (ms : List ℕ) (w d : ℕ) (c : Counts) → retraceCall p path ms w d .answer ≡ gives c →
-    Accepted (p .points) (p .lengths) × (c ≡ counts (retrace p))
+pub retrace-gives : (p : Plate) (path : List Float) (ms : List ℕ) (w d : ℕ) (c : Counts) → retraceCall p path ms w d .answer ≡ gives c →
+    Accepted (p .points) (p .lengths) × AllTakePart p × (c ≡ counts (retrace p))
 unfolding retraceCall retraceWork fitted
 retrace-gives p path ms w d c e =
-    let accepted = checked-gives (p .points) (p .lengths) _ c e in
-    let e1 = refuse-gives _ _ _ _ c (accepted .1) in
+    let accepted = checked-gives (p .points) (p .lengths) (p .layers) _ c e in
+    let e1 = refuse-gives _ _ _ _ c (accepted .2) in
     let e2 = refuse-gives _ _ _ _ c (e1 .1) in
     let e3 = refuse-gives _ _ _ _ c (e2 .1) in
-    (accepted .0, cc (e3 .1))
+    (accepted .0, layered-part p (accepted .1), cc (e3 .1))
 
 -- an output slice after a result of n numbers
-slice-after : {A B : Type 0} (a : Answer A) (c : A) (room n : ℕ) (result slice : List B) → a ≡ gives c → length result ≡ n →
+pub slice-after : {A B : Type 0} (a : Answer A) (c : A) (room n : ℕ) (result slice : List B) → a ≡ gives c → length result ≡ n →
     (after a room result slice ≡ result ++ drop n slice) × (take n (after a room result slice) ≡ result)
 unfolding after over
 slice-after a c room n result slice e l = rw e (rw l, take-at result (drop (length result) slice) n l)
@@ -87,7 +88,7 @@ slice-after a c room n result slice e l = rw e (rw l, take-at result (drop (leng
 pub path-statement : PathStatement
 unfolding PathStatement retraceCall counts
 path-statement p path ms w d c e h =
-    let (accepted, counted) = retrace-gives p path ms w d c e in
+    let (accepted, part, counted) = retrace-gives p path ms w d c e in
     let r = retrace p in
     let a = retraceCall p path ms w d .answer in
     let room = retraceRoom (length path) (length ms) in
@@ -95,4 +96,4 @@ path-statement p path ms w d c e h =
     let xs = coordinates (p .points) (vertices r) in
     let x = slice-after a c room (2 * c .points) xs path e (omega (arith, coordinates-length (p .points) (vertices r), vertices-length r)) in
     let y = slice-after a c room (2 * c .points) (marks r) ms e (omega (arith, marks-length r)) in
-    (counted, x .0, y .0, rw (x .1, y .1, counted) (retrace-divides p (accepted-measurable p accepted) h))
+    (counted, x .0, y .0, rw (x .1, y .1, counted) (retrace-divides p (accepted-measurable p accepted) part h))

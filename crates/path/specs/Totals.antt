@@ -1,4 +1,4 @@
--- The path of a plate has S cuts and n − 1 jumps, and cuts each segment of each contour once. Assumes nothing.
+-- The path of a plate whose contours all take part has S cuts and n − 1 jumps, and cuts each segment of each contour once. Assumes nothing.
 use mathlib.Core.Path.{_≡_, refl, ap, fun-ext}
 use mathlib.Core.Bool.{Bool, _&&_}
 use mathlib.Core.List.{List, [], _∷_, map}
@@ -14,6 +14,7 @@ use Rattle.rules.specs.PathStatement.{contourCount, segmentCount, IsContour, cu
 use Rattle.path.specs.Lists.{all-of, all-give, length-upFrom}
 use Rattle.path.specs.Sums.{sum-ones, sum-zeros, indicator, sum-absent, sum-once}
 use Rattle.path.specs.Contours.{Apart, others, others-apart, sum-others, contours-rise, sum-segments}
+use Rattle.path.specs.Start.{AllTakePart}
 use Rattle.path.specs.Shares.{Weights, share, retrace-total}
 
 -- 1 for a step whose mark passes a test of kind and reference
@@ -28,28 +29,28 @@ count-is test (s ∷ path) = rw (count-is test path)
 
 -- the marks that pass a test, summed up contour by contour
 counted : (test : ℕ → ℕ → Bool) (segment : ℕ → ℕ) (jump : ℕ) → Weights (passes test) segment jump →
-    (f : Contour → ℕ) → ((c : Contour) → share segment jump c ≡ f c) → (p : Plate) → 1 ≤ contourCount p →
+    (f : Contour → ℕ) → ((c : Contour) → share segment jump c ≡ f c) → (p : Plate) → AllTakePart p → 1 ≤ contourCount p →
     jump + countMarks test (marks (retrace p)) ≡ sum (map f (contours p))
-counted test segment jump w f e p h =
+counted test segment jump w f e p t h =
     let same = ap (λ (k : Contour → ℕ). sum (map k (contours p))) (fun-ext e) in
-    omega (arith, count-is test (retrace p), retrace-total (passes test) segment jump w p h, same)
+    omega (arith, count-is test (retrace p), retrace-total (passes test) segment jump w p t h, same)
 
 -- ---- S cuts, n − 1 jumps
 
-pub retrace-cuts : (p : Plate) → 1 ≤ contourCount p → marksOf cutKind (marks (retrace p)) ≡ segmentCount p
+pub retrace-cuts : (p : Plate) → AllTakePart p → 1 ≤ contourCount p → marksOf cutKind (marks (retrace p)) ≡ segmentCount p
 unfolding marksOf segmentCount contourCount share pick land cutUp cutDown backStep
-retrace-cuts p h =
+retrace-cuts p t h =
     let n = counted (λ kind r. eqb kind cutKind) (λ v. 1) 0
     (record { up = λ v. refl; down = λ v. refl; back = λ v k. refl; start = λ v. refl; landing = λ v. refl }) (λ c. c .last)
-    (λ c. omega (arith, sum-ones (upFrom (c .first) (c .last)), length-upFrom (c .first) (c .last))) p h in
+    (λ c. omega (arith, sum-ones (upFrom (c .first) (c .last)), length-upFrom (c .first) (c .last))) p t h in
     omega (arith, n, sum-segments p)
 
-pub retrace-jumps : (p : Plate) → 1 ≤ contourCount p → marksOf jumpKind (marks (retrace p)) + 1 ≡ contourCount p
+pub retrace-jumps : (p : Plate) → AllTakePart p → 1 ≤ contourCount p → marksOf jumpKind (marks (retrace p)) + 1 ≡ contourCount p
 unfolding marksOf contourCount share pick land cutUp cutDown backStep
-retrace-jumps p h =
+retrace-jumps p t h =
     let n = counted (λ kind r. eqb kind jumpKind) (λ v. 0) 1
     (record { up = λ v. refl; down = λ v. refl; back = λ v k. refl; start = λ v. refl; landing = λ v. refl }) (λ c. 1)
-    (λ c. omega (arith, sum-zeros (λ v. 0) (upFrom (c .first) (c .last)) (all-of _ (λ v. refl) (upFrom (c .first) (c .last))))) p h in
+    (λ c. omega (arith, sum-zeros (λ v. 0) (upFrom (c .first) (c .last)) (all-of _ (λ v. refl) (upFrom (c .first) (c .last))))) p t h in
     omega (arith, n, sum-ones (contours p))
 
 -- ---- each segment once
@@ -69,11 +70,11 @@ one-segment p c m i h =
     let none = all-give (Apart c) (λ d. segmentOf v d ≡ 0) absent rest (others-apart c (contours p) (contours-rise p) m) in
     omega (arith, sum-others (segmentOf v) c (contours p) (contours-rise p) m, sum-once (c .first) (c .last) i h, sum-zeros (segmentOf v) rest none)
 
-pub retrace-once : (p : Plate) → 1 ≤ contourCount p → (c : Contour) → IsContour p c → (i : ℕ) → i < c .last →
+pub retrace-once : (p : Plate) → AllTakePart p → 1 ≤ contourCount p → (c : Contour) → IsContour p c → (i : ℕ) → i < c .last →
     cutsOf (c .first + i) (marks (retrace p)) ≡ 1
 unfolding cutsOf share pick land cutUp cutDown backStep
-retrace-once p h c m i l =
+retrace-once p t h c m i l =
     let v = c .first + i in
     let n = counted (λ kind r. eqb kind cutKind && eqb r v) (indicator v) 0
-    (record { up = λ u. refl; down = λ u. refl; back = λ u k. refl; start = λ u. refl; landing = λ u. refl }) (segmentOf v) (λ d. zero-add _) p h in
+    (record { up = λ u. refl; down = λ u. refl; back = λ u k. refl; start = λ u. refl; landing = λ u. refl }) (segmentOf v) (λ d. zero-add _) p t h in
     omega (arith, n, one-segment p c m i l)

@@ -1,10 +1,11 @@
-// The input checks that all calls share: refusals 1 to 4, in their order.
+// The input checks that the calls share: refusals 1 to 3, 13 and 4, in their order.
 ghost use mathlib.Core.Path.{_≡_};
 ghost use Prim.Native.Nat.{_≤_};
 ghost use lib.ListN.{length};
 ghost use Rattle.rules.specs.Tools.{sum};
-ghost use Rattle.rules.specs.HandedOver.{gives, inRange, plateLimit, firstOff, checked};
+ghost use Rattle.rules.specs.HandedOver.{gives, inRange, plateLimit, firstOff, firstBad, counted, onPlate, checkedContours, checked};
 ghost use Rattle.plate.specs.Answer.{checkedAnswer};
+use rules::HIGHEST_LAYER;
 use rules::Refusal;
 
 // The number of points, or why the plate is refused.
@@ -48,8 +49,23 @@ fn first_off(points: &[f64]) -> usize
     i
 }
 
-pub fn check(points: &[f64], lengths: &[u32]) -> Checked
-    ensures { λ r. ⌜ checkedAnswer r ≡ checked (now (points .entry)) (now (lengths .entry)) (gives (sum (now (lengths .entry)))) ⌝ }
+// The number of the first contour with a layer above the highest, or the slice's length.
+fn first_bad(layers: &[u32]) -> usize
+    ensures { λ r. ⌜ r ≡ firstBad 0 (now (layers .entry)) ⌝ }
+{
+    let mut i: usize = 0;
+    while i < layers.len() {
+        if HIGHEST_LAYER < layers[i] {
+            return i;
+        }
+        i += 1;
+    }
+    i
+}
+
+// Refusals 1 to 3.
+fn check_counts(points: &[f64], lengths: &[u32]) -> Checked
+    ensures { λ r. ⌜ checkedAnswer r ≡ counted (now (points .entry)) (now (lengths .entry)) (gives (sum (now (lengths .entry)))) ⌝ }
 {
     if 4096 < lengths.len() {
         return Checked::Unsound(Refusal::TooManyContours);
@@ -61,9 +77,46 @@ pub fn check(points: &[f64], lengths: &[u32]) -> Checked
     if points.len() as u64 != 2 * total {
         return Checked::Unsound(Refusal::Miscounted);
     }
+    Checked::Sound(total as u32)
+}
+
+// Refusal 4, of points that refusals 1 to 3 let pass, else the answer before it.
+fn check_points(points: &[f64], answer: Checked) -> Checked
+    requires { ⌜ length (now points) ≤ 131072 ⌝ }
+    ensures { λ r. ⌜ checkedAnswer r ≡ onPlate (now (points .entry)) (checkedAnswer answer) ⌝ }
+{
     let k = first_off(points);
     if k < points.len() {
         return Checked::Unsound(Refusal::OffThePlate(k as u32));
     }
-    Checked::Sound(total as u32)
+    answer
+}
+
+// Refusals 1 to 4, of contours without layers.
+pub fn check_contours(points: &[f64], lengths: &[u32]) -> Checked
+    ensures { λ r. ⌜ checkedAnswer r ≡ checkedContours (now (points .entry)) (now (lengths .entry)) (gives (sum (now (lengths .entry)))) ⌝ }
+{
+    let counted = check_counts(points, lengths);
+    let Checked::Sound(_) = counted else {
+        return counted;
+    };
+    check_points(points, counted)
+}
+
+// Refusals 1 to 3, 13 and 4.
+pub fn check(points: &[f64], lengths: &[u32], layers: &[u32]) -> Checked
+    ensures { λ r. ⌜ checkedAnswer r ≡ checked (now (points .entry)) (now (lengths .entry)) (now (layers .entry)) (gives (sum (now (lengths .entry)))) ⌝ }
+{
+    let counted = check_counts(points, lengths);
+    let Checked::Sound(_) = counted else {
+        return counted;
+    };
+    if layers.len() != lengths.len() {
+        return Checked::Unsound(Refusal::BadLayer(lengths.len() as u32));
+    }
+    let b = first_bad(layers);
+    if b < layers.len() {
+        return Checked::Unsound(Refusal::BadLayer(b as u32));
+    }
+    check_points(points, counted)
 }

@@ -1,7 +1,7 @@
 // Replays the reference's recorded plates by the start, order and straight calls. Standard input holds them as words (crate words): the
-// number of rows, then the rows. A row has eight words (the number of coordinates, the number of lengths, width, height, 1 for Inside or 0,
-// the lengths of the order, path and work slices), the coordinates, the lengths, and then each call's numbers, followed by its slice as the
-// call leaves it. Prints how many rows there were and how many differed.
+// number of rows, then the rows. A row has nine words (the number of coordinates, the number of lengths, the number of layers, width,
+// height, 1 for Inside or 0, the lengths of the order, path and work slices), the coordinates, the lengths, the layers, and then each
+// call's numbers, followed by its slice as the call leaves it. Prints how many rows there were and how many differed.
 ghost use Prim.Native.Nat.{_≤_};
 use twillharbor::twillharbor_order;
 use twillharbor::twillharbor_start;
@@ -19,16 +19,27 @@ const ROOM: usize = 262144;
 // As many words fit.
 const WORDS: usize = 15420;
 
+// The arguments of the calls on a plate behind its layers; of the slices lent, the lengths.
+struct Arguments {
+    width: u32,
+    height: u32,
+    inside: bool,
+    order: usize,
+    path: usize,
+    work: usize,
+}
+
 fn start_agrees(
     text: &[u8],
     i: usize,
     points: &[f64],
     lengths: &[u32],
+    layers: &[u32],
     width: u32,
     height: u32,
     inside: bool,
 ) -> bool {
-    let r = twillharbor_start(points, lengths, width, height, inside);
+    let r = twillharbor_start(points, lengths, layers, width, height, inside);
     let numbers = [r.number, r.place, r.contour, r.reversed];
     numbers_differ(text, i, &numbers) == 0
 }
@@ -38,6 +49,7 @@ fn order_agrees(
     i: usize,
     points: &[f64],
     lengths: &[u32],
+    layers: &[u32],
     width: u32,
     height: u32,
     inside: bool,
@@ -46,7 +58,7 @@ fn order_agrees(
 ) -> bool
     requires { ⌜ i ≤ 16000 ⌝ }
 {
-    let r = twillharbor_order(points, lengths, width, height, inside, order, work);
+    let r = twillharbor_order(points, lengths, layers, width, height, inside, order, work);
     let numbers = [r.number, r.place, r.entries];
     numbers_differ(text, i, &numbers) == 0 && numbers_differ(text, i + 3, order) == 0
 }
@@ -56,6 +68,7 @@ fn straight_agrees(
     i: usize,
     points: &[f64],
     lengths: &[u32],
+    layers: &[u32],
     width: u32,
     height: u32,
     inside: bool,
@@ -64,7 +77,7 @@ fn straight_agrees(
 ) -> bool
     requires { ⌜ i ≤ 16000 ⌝ }
 {
-    let r = twillharbor_straight(points, lengths, width, height, inside, path, work);
+    let r = twillharbor_straight(points, lengths, layers, width, height, inside, path, work);
     let numbers = [r.number, r.place, r.points];
     numbers_differ(text, i, &numbers) == 0 && floats_differ(text, i + 3, path) == 0
 }
@@ -75,15 +88,12 @@ fn straight_lent(
     i: usize,
     points: &[f64],
     lengths: &[u32],
-    width: u32,
-    height: u32,
-    inside: bool,
-    path: usize,
-    work: usize,
+    layers: &[u32],
+    handed: Arguments,
 ) -> bool
     requires { ⌜ i ≤ 16000 ⌝ }
-    requires { ⌜ path ≤ 64 ⌝ }
-    requires { ⌜ work ≤ 64 ⌝ }
+    requires { ⌜ handed .path ≤ 64 ⌝ }
+    requires { ⌜ handed .work ≤ 64 ⌝ }
 {
     let mut places = [100.0f64; 64];
     let mut straight_work = [9u32; 64];
@@ -92,11 +102,12 @@ fn straight_lent(
         i,
         points,
         lengths,
-        width,
-        height,
-        inside,
-        &mut places[..path],
-        &mut straight_work[..work],
+        layers,
+        handed.width,
+        handed.height,
+        handed.inside,
+        &mut places[..handed.path],
+        &mut straight_work[..handed.work],
     )
 }
 
@@ -106,73 +117,60 @@ fn calls_agree(
     i: usize,
     points: &[f64],
     lengths: &[u32],
-    width: u32,
-    height: u32,
-    inside: bool,
-    order: usize,
-    path: usize,
-    work: usize,
+    layers: &[u32],
+    handed: Arguments,
 ) -> bool
     requires { ⌜ i ≤ 15500 ⌝ }
-    requires { ⌜ order ≤ 64 ⌝ }
-    requires { ⌜ path ≤ 64 ⌝ }
-    requires { ⌜ work ≤ 64 ⌝ }
+    requires { ⌜ handed .order ≤ 64 ⌝ }
+    requires { ⌜ handed .path ≤ 64 ⌝ }
+    requires { ⌜ handed .work ≤ 64 ⌝ }
 {
     let mut entries = [2779096485u32; 64];
     let mut order_work = [7u32; 64];
-    let a = start_agrees(text, i, points, lengths, width, height, inside);
+    let width = handed.width;
+    let height = handed.height;
+    let inside = handed.inside;
+    let a = start_agrees(text, i, points, lengths, layers, width, height, inside);
     let b = order_agrees(
         text,
         i + 4,
         points,
         lengths,
+        layers,
         width,
         height,
         inside,
-        &mut entries[..order],
-        &mut order_work[..work],
+        &mut entries[..handed.order],
+        &mut order_work[..handed.work],
     );
-    let j = i + 7 + order;
-    let c = straight_lent(text, j, points, lengths, width, height, inside, path, work);
+    let j = i + 7 + handed.order;
+    let c = straight_lent(text, j, points, lengths, layers, handed);
     a && b && c
 }
 
-// The same, after the coordinates at word i and the lengths at word j were copied into the slices; the answers start at word k. A length
-// that is no u32 differs.
+// The same, after the coordinates at word i, the lengths at word j and the layers at word k were copied into the slices; the answers start
+// at word l. A length or a layer that is no u32 differs.
 fn plate_agrees(
     text: &[u8],
     i: usize,
     j: usize,
     k: usize,
+    l: usize,
     points: &mut [f64],
     lengths: &mut [u32],
-    width: u32,
-    height: u32,
-    inside: bool,
-    order: usize,
-    path: usize,
-    work: usize,
+    layers: &mut [u32],
+    handed: Arguments,
 ) -> bool
-    requires { ⌜ k ≤ 15500 ⌝ }
-    requires { ⌜ order ≤ 64 ⌝ }
-    requires { ⌜ path ≤ 64 ⌝ }
-    requires { ⌜ work ≤ 64 ⌝ }
+    requires { ⌜ l ≤ 15500 ⌝ }
+    requires { ⌜ handed .order ≤ 64 ⌝ }
+    requires { ⌜ handed .path ≤ 64 ⌝ }
+    requires { ⌜ handed .work ≤ 64 ⌝ }
 {
     copy_floats(text, i, points);
     copy_numbers(text, j, lengths);
-    let fit = numbers_differ(text, j, lengths) == 0;
-    let agree = calls_agree(
-        text,
-        k,
-        points,
-        lengths,
-        width,
-        height,
-        inside,
-        order,
-        path,
-        work,
-    );
+    copy_numbers(text, k, layers);
+    let fit = numbers_differ(text, j, lengths) == 0 && numbers_differ(text, k, layers) == 0;
+    let agree = calls_agree(text, l, points, lengths, layers, handed);
     fit && agree
 }
 
@@ -182,41 +180,30 @@ enum Row {
     Broken,
 }
 
-// A row whose coordinates start at word i.
-fn sized_row(
-    text: &[u8],
-    i: usize,
-    n: usize,
-    m: usize,
-    width: u32,
-    height: u32,
-    inside: bool,
-    order: usize,
-    path: usize,
-    work: usize,
-) -> Row
+// A row of n coordinates, which start at word i, m lengths and o layers.
+fn sized_row(text: &[u8], i: usize, n: usize, m: usize, o: usize, handed: Arguments) -> Row
     requires { ⌜ i ≤ 15430 ⌝ }
 {
-    if 40 < n || 12 < m || 64 < order || 64 < path || 64 < work {
+    if 40 < n || 12 < m || 16 < o || 64 < handed.order || 64 < handed.path || 64 < handed.work {
         return Row::Broken;
     }
-    let k = i + n + m;
-    let end = k + order + path + 10;
+    let j = i + n;
+    let k = j + m;
+    let l = k + o;
+    let end = l + handed.order + handed.path + 10;
     let mut points = [0.0f64; 40];
     let mut lengths = [0u32; 12];
+    let mut layers = [0u32; 16];
     let agrees = plate_agrees(
         text,
         i,
-        i + n,
+        j,
         k,
+        l,
         &mut points[..n],
         &mut lengths[..m],
-        width,
-        height,
-        inside,
-        order,
-        path,
-        work,
+        &mut layers[..o],
+        handed,
     );
     Row::Read(agrees, end)
 }
@@ -227,22 +214,26 @@ fn size(n: u32) -> usize {
 
 // The row at word i.
 fn row_at(text: &[u8], i: usize) -> Row {
-    let mut sizes = [0u32; 8];
+    let mut sizes = [0u32; 9];
     copy_numbers(text, i, &mut sizes);
-    if WORDS < i || numbers_differ(text, i, &sizes) != 0 || 1 < sizes[4] {
+    if WORDS < i || numbers_differ(text, i, &sizes) != 0 || 1 < sizes[5] {
         return Row::Broken;
     }
+    let handed = Arguments {
+        width: sizes[3],
+        height: sizes[4],
+        inside: sizes[5] == 1,
+        order: size(sizes[6]),
+        path: size(sizes[7]),
+        work: size(sizes[8]),
+    };
     sized_row(
         text,
-        i + 8,
+        i + 9,
         size(sizes[0]),
         size(sizes[1]),
-        sizes[2],
-        sizes[3],
-        sizes[4] == 1,
-        size(sizes[5]),
-        size(sizes[6]),
-        size(sizes[7]),
+        size(sizes[2]),
+        handed,
     )
 }
 

@@ -1,7 +1,7 @@
 // Replays the reference's recorded plates by the retrace call. Standard input holds them as words (crate words): the number of rows, then
-// the rows. A row has nine words (the number of coordinates, the number of lengths, width, height, 1 for Inside or 0, the lengths of the
-// path, marks, u32 work and f64 work slices), the coordinates, the lengths, the call's six numbers, and the path and the marks slices as
-// the call leaves them. Prints how many rows there were and how many differed.
+// the rows. A row has ten words (the number of coordinates, the number of lengths, the number of layers, width, height, 1 for Inside or 0,
+// the lengths of the path, marks, u32 work and f64 work slices), the coordinates, the lengths, the layers, the call's six numbers, and the
+// path and the marks slices as the call leaves them. Prints how many rows there were and how many differed.
 ghost use Prim.Native.Nat.{_≤_};
 use twillharbor::twillharbor_retrace;
 use words::copy_floats;
@@ -17,6 +17,17 @@ const ROOM: usize = 262144;
 // As many words fit.
 const WORDS: usize = 15420;
 
+// The arguments of the call on a plate behind its layers; of the slices lent, the lengths.
+struct Arguments {
+    width: u32,
+    height: u32,
+    inside: bool,
+    path: usize,
+    marks: usize,
+    work: usize,
+    distances: usize,
+}
+
 // The call on a plate: its answer stands at word i, the marks at word j.
 fn call_agrees(
     text: &[u8],
@@ -24,6 +35,7 @@ fn call_agrees(
     j: usize,
     points: &[f64],
     lengths: &[u32],
+    layers: &[u32],
     width: u32,
     height: u32,
     inside: bool,
@@ -37,6 +49,7 @@ fn call_agrees(
     let r = twillharbor_retrace(
         points,
         lengths,
+        layers,
         width,
         height,
         inside,
@@ -57,19 +70,14 @@ fn lent_agrees(
     i: usize,
     points: &[f64],
     lengths: &[u32],
-    width: u32,
-    height: u32,
-    inside: bool,
-    path: usize,
-    marks: usize,
-    work: usize,
-    distances: usize,
+    layers: &[u32],
+    handed: Arguments,
 ) -> bool
     requires { ⌜ i ≤ 15500 ⌝ }
-    requires { ⌜ path ≤ 128 ⌝ }
-    requires { ⌜ marks ≤ 128 ⌝ }
-    requires { ⌜ work ≤ 16640 ⌝ }
-    requires { ⌜ distances ≤ 16 ⌝ }
+    requires { ⌜ handed .path ≤ 128 ⌝ }
+    requires { ⌜ handed .marks ≤ 128 ⌝ }
+    requires { ⌜ handed .work ≤ 16640 ⌝ }
+    requires { ⌜ handed .distances ≤ 16 ⌝ }
 {
     let mut lent_path = [100.0f64; 128];
     let mut lent_marks = [2779096485u32; 128];
@@ -78,58 +86,44 @@ fn lent_agrees(
     call_agrees(
         text,
         i,
-        i + 6 + path,
+        i + 6 + handed.path,
         points,
         lengths,
-        width,
-        height,
-        inside,
-        &mut lent_path[..path],
-        &mut lent_marks[..marks],
-        &mut lent_work[..work],
-        &mut lent_distances[..distances],
+        layers,
+        handed.width,
+        handed.height,
+        handed.inside,
+        &mut lent_path[..handed.path],
+        &mut lent_marks[..handed.marks],
+        &mut lent_work[..handed.work],
+        &mut lent_distances[..handed.distances],
     )
 }
 
-// The same, after the coordinates at word i and the lengths at word j were copied into the slices; the answers start at word k. A length
-// that is no u32 differs.
+// The same, after the coordinates at word i, the lengths at word j and the layers at word k were copied into the slices; the answers start
+// at word l. A length or a layer that is no u32 differs.
 fn plate_agrees(
     text: &[u8],
     i: usize,
     j: usize,
     k: usize,
+    l: usize,
     points: &mut [f64],
     lengths: &mut [u32],
-    width: u32,
-    height: u32,
-    inside: bool,
-    path: usize,
-    marks: usize,
-    work: usize,
-    distances: usize,
+    layers: &mut [u32],
+    handed: Arguments,
 ) -> bool
-    requires { ⌜ k ≤ 15500 ⌝ }
-    requires { ⌜ path ≤ 128 ⌝ }
-    requires { ⌜ marks ≤ 128 ⌝ }
-    requires { ⌜ work ≤ 16640 ⌝ }
-    requires { ⌜ distances ≤ 16 ⌝ }
+    requires { ⌜ l ≤ 15500 ⌝ }
+    requires { ⌜ handed .path ≤ 128 ⌝ }
+    requires { ⌜ handed .marks ≤ 128 ⌝ }
+    requires { ⌜ handed .work ≤ 16640 ⌝ }
+    requires { ⌜ handed .distances ≤ 16 ⌝ }
 {
     copy_floats(text, i, points);
     copy_numbers(text, j, lengths);
-    let fit = numbers_differ(text, j, lengths) == 0;
-    let agree = lent_agrees(
-        text,
-        k,
-        points,
-        lengths,
-        width,
-        height,
-        inside,
-        path,
-        marks,
-        work,
-        distances,
-    );
+    copy_numbers(text, k, layers);
+    let fit = numbers_differ(text, j, lengths) == 0 && numbers_differ(text, k, layers) == 0;
+    let agree = lent_agrees(text, l, points, lengths, layers, handed);
     fit && agree
 }
 
@@ -139,43 +133,37 @@ enum Row {
     Broken,
 }
 
-// A row whose coordinates start at word i.
-fn sized_row(
-    text: &[u8],
-    i: usize,
-    n: usize,
-    m: usize,
-    width: u32,
-    height: u32,
-    inside: bool,
-    path: usize,
-    marks: usize,
-    work: usize,
-    distances: usize,
-) -> Row
+// A row of n coordinates, which start at word i, m lengths and o layers.
+fn sized_row(text: &[u8], i: usize, n: usize, m: usize, o: usize, handed: Arguments) -> Row
     requires { ⌜ i ≤ 15430 ⌝ }
 {
-    if 40 < n || 12 < m || 128 < path || 128 < marks || 16640 < work || 16 < distances {
+    if 40 < n
+        || 12 < m
+        || 16 < o
+        || 128 < handed.path
+        || 128 < handed.marks
+        || 16640 < handed.work
+        || 16 < handed.distances
+    {
         return Row::Broken;
     }
-    let k = i + n + m;
-    let end = k + path + marks + 6;
+    let j = i + n;
+    let k = j + m;
+    let l = k + o;
+    let end = l + handed.path + handed.marks + 6;
     let mut points = [0.0f64; 40];
     let mut lengths = [0u32; 12];
+    let mut layers = [0u32; 16];
     let agrees = plate_agrees(
         text,
         i,
-        i + n,
+        j,
         k,
+        l,
         &mut points[..n],
         &mut lengths[..m],
-        width,
-        height,
-        inside,
-        path,
-        marks,
-        work,
-        distances,
+        &mut layers[..o],
+        handed,
     );
     Row::Read(agrees, end)
 }
@@ -186,23 +174,27 @@ fn size(n: u32) -> usize {
 
 // The row at word i.
 fn row_at(text: &[u8], i: usize) -> Row {
-    let mut sizes = [0u32; 9];
+    let mut sizes = [0u32; 10];
     copy_numbers(text, i, &mut sizes);
-    if WORDS < i || numbers_differ(text, i, &sizes) != 0 || 1 < sizes[4] {
+    if WORDS < i || numbers_differ(text, i, &sizes) != 0 || 1 < sizes[5] {
         return Row::Broken;
     }
+    let handed = Arguments {
+        width: sizes[3],
+        height: sizes[4],
+        inside: sizes[5] == 1,
+        path: size(sizes[6]),
+        marks: size(sizes[7]),
+        work: size(sizes[8]),
+        distances: size(sizes[9]),
+    };
     sized_row(
         text,
-        i + 9,
+        i + 10,
         size(sizes[0]),
         size(sizes[1]),
-        sizes[2],
-        sizes[3],
-        sizes[4] == 1,
-        size(sizes[5]),
-        size(sizes[6]),
-        size(sizes[7]),
-        size(sizes[8]),
+        size(sizes[2]),
+        handed,
     )
 }
 

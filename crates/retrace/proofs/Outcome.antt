@@ -13,9 +13,10 @@ use Rattle.rules.specs.RetraceAndMarks.{cutKind, backStepKind, jumpKind, Step, 
 use Rattle.rules.specs.Calls.{counts, vertices, retraceCall}
 use Rattle.rules.specs.declared.Counts.{Counts}
 use Rattle.rules.specs.declared.Refusal.{Refusal}
-use Rattle.rules.specs.PathStatement.{contourCount, Divides, PathStatement}
+use Rattle.rules.specs.PathStatement.{contourCount, Divides, PathStatement, NeverFall, LayerStatement}
 use Rattle.path.specs.Slices.{marks-length}
 use Rattle.path.specs.Theorem.{path-statement}
+use Rattle.path.specs.NeverFall.{layer-statement}
 use Rattle.plate.specs.Refused.{checked-refuses, checked-passes}
 use Rattle.slices.specs.Pairs.{pairs-take, coordinates-take}
 use Rattle.slices.specs.Outcome.{after-checked, work-same}
@@ -27,15 +28,17 @@ Met p path ms work ds a path′ ms′ work′ ds′ =
     let o = retraceCall p path ms (length work) (length ds) in
     (a ≡ o .answer) × (path′ ≡ o .path) × (ms′ ≡ o .marks) × WorkKept (o .answer) work work′ × WorkKept (o .answer) ds ds′
 
--- and what a result has written divides as the path statement says
+-- and what a result has written divides as the path statement says, where there is a contour, and its layers never fall
 abbrev pub Divided : Plate → Answer Counts → List Float → List ℕ → Type 0
 Divided p a path′ ms′ =
-    (n : Counts) → a ≡ gives n → 1 ≤ contourCount p → Divides p n (take (2 * n .points) path′) (take (2 * n .points) ms′)
+    (n : Counts) → a ≡ gives n →
+    (1 ≤ contourCount p → Divides p n (take (2 * n .points) path′) (take (2 * n .points) ms′)) × NeverFall p (n .points) (take (2 * n .points) ms′)
 
 pub divides : (p : Plate) (path : List Float) (ms : List ℕ) (w d : ℕ) (a : Answer Counts) (path′ : List Float) (ms′ : List ℕ) →
     a ≡ retraceCall p path ms w d .answer → path′ ≡ retraceCall p path ms w d .path → ms′ ≡ retraceCall p path ms w d .marks → Divided p a path′ ms′
-unfolding PathStatement
-divides p path ms w d a path′ ms′ x y z n e k = rw (y, z) (path-statement p path ms w d n (sym x ∙ e) k .3)
+unfolding PathStatement LayerStatement
+divides p path ms w d a path′ ms′ x y z n e =
+    rw (y, z) (λ k. path-statement p path ms w d n (sym x ∙ e) k .3, layer-statement p path ms w d n (sym x ∙ e))
 
 -- ---- as many as there is room for
 
@@ -57,19 +60,19 @@ module _ (p : Plate) (path : List Float) (ms work : List ℕ) (ds : List Float) 
   abbrev pub c : ℕ
   c = retraceRoom (length path) (length ms)
 
-  pub met-refused : (r : Refusal) (m : ℕ) → refusal r ≡ checked (p .points) (p .lengths) (gives m) → Met p path ms work ds (refusal r) path ms work ds
+  pub met-refused : (r : Refusal) (m : ℕ) → refusal r ≡ checked (p .points) (p .lengths) (p .layers) (gives m) → Met p path ms work ds (refusal r) path ms work ds
   unfolding retraceCall
   met-refused r m h = (
-    checked-refuses (p .points) (p .lengths) r m _ h,
-    after-checked (p .points) (p .lengths) r m _ c _ path h,
-    after-checked (p .points) (p .lengths) r m _ c _ ms h,
+    checked-refuses (p .points) (p .lengths) (p .layers) r m _ h,
+    after-checked (p .points) (p .lengths) (p .layers) r m _ c _ path h,
+    after-checked (p .points) (p .lengths) (p .layers) r m _ c _ ms h,
     work-same _ work,
     work-same _ ds,
   )
 
-  module _ (m k : ℕ) (sound : checked (p .points) (p .lengths) (gives m) ≡ gives k) where
-    passed : {A : Type 0} (later : Answer A) → checked (p .points) (p .lengths) later ≡ later
-    passed later = checked-passes (p .points) (p .lengths) m k later sound
+  module _ (m k : ℕ) (sound : checked (p .points) (p .lengths) (p .layers) (gives m) ≡ gives k) where
+    passed : {A : Type 0} (later : Answer A) → checked (p .points) (p .lengths) (p .layers) later ≡ later
+    passed later = checked-passes (p .points) (p .lengths) (p .layers) m k later sound
 
     pub met-short : length work < c + 4 * sum (p .lengths) + 8 * length (p .lengths) + 16384 → Met p path ms work ds (refuses 5 0) path ms work ds
     unfolding retraceCall retraceWork refuseIf after pick

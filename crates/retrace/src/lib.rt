@@ -5,7 +5,7 @@ ghost use lib.Dec.{eqb};
 ghost use lib.ListN.{length, take};
 ghost use Rattle.rules.specs.Tools.{pick};
 ghost use Rattle.rules.specs.HandedOver.{plate, gives, retraceAnswer, WorkKept};
-ghost use Rattle.rules.specs.PathStatement.{contourCount, Divides};
+ghost use Rattle.rules.specs.PathStatement.{contourCount, Divides, NeverFall};
 ghost use Rattle.rules.specs.declared.Counts.{Counts};
 ghost use Rattle.rules.specs.RetraceAndMarks.{cutKind, backStepKind, jumpKind, marksOf};
 ghost use Rattle.rules.specs.Calls.{retraceCall};
@@ -50,10 +50,11 @@ fn count_marks(marks: &[u32], n: u32) -> Counts
 }
 
 // The retrace call: path points with their marks, and how many cuts, back-steps and jumps there are. What it finishes divides as the path statement
-// (rules/specs/PathStatement.antt) says, for every plate that has a contour.
+// (rules/specs/PathStatement.antt) says, for every plate that has a contour, and along it the layers never fall.
 pub fn retrace_call(
     points: &[f64],
     lengths: &[u32],
+    layers: &[u32],
     width: u32,
     height: u32,
     strategy: StartPointStrategy,
@@ -63,14 +64,15 @@ pub fn retrace_call(
     distances: &mut [f64],
 ) -> RetraceAnswer
     ensures { λ r. ⌜
-        (let o = retraceCall (plate (now (points .entry)) (now (lengths .entry)) width height strategy) (now (path .entry)) (now (marks .entry)) (length (now (work .entry))) (length (now (distances .entry))) in
+        (let o = retraceCall (plate (now (points .entry)) (now (lengths .entry)) (now (layers .entry)) width height strategy) (now (path .entry)) (now (marks .entry)) (length (now (work .entry))) (length (now (distances .entry))) in
         (retraceAnswer r ≡ o .answer) × (now (path .exit) ≡ o .path) × (now (marks .exit) ≡ o .marks)
         × WorkKept (o .answer) (now (work .entry)) (now (work .exit)) × WorkKept (o .answer) (now (distances .entry)) (now (distances .exit)))
-        × (let p = plate (now (points .entry)) (now (lengths .entry)) width height strategy in
-        (n : Counts) → retraceAnswer r ≡ gives n → 1 ≤ contourCount p →
-        Divides p n (take (2 * n .points) (now (path .exit))) (take (2 * n .points) (now (marks .exit)))) ⌝ }
+        × (let p = plate (now (points .entry)) (now (lengths .entry)) (now (layers .entry)) width height strategy in
+        (n : Counts) → retraceAnswer r ≡ gives n →
+        (1 ≤ contourCount p → Divides p n (take (2 * n .points) (now (path .exit))) (take (2 * n .points) (now (marks .exit))))
+        × NeverFall p (n .points) (take (2 * n .points) (now (marks .exit)))) ⌝ }
 {
-    let checked = check(points, lengths);
+    let checked = check(points, lengths, layers);
     if let Checked::Unsound(r) = checked {
         return RetraceAnswer::NotJoined(r);
     }
@@ -86,6 +88,7 @@ pub fn retrace_call(
     let n = join_retrace(
         points,
         lengths,
+        layers,
         width,
         height,
         strategy,

@@ -26,7 +26,7 @@ startOr none = refuses 7 0
 startOr (some s) = gives (s .contour .number, s .reversed)
 
 unfoldable pub startCall : Plate → Answer (ℕ × Bool)
-startCall p = checked (p .points) (p .lengths) (startOr (start p))
+startCall p = checked (p .points) (p .lengths) (p .layers) (startOr (start p))
 
 -- `slice` is the order slice, w the length of the work slice
 pub record OrderOutcome : Type 0 where
@@ -37,7 +37,7 @@ unfoldable pub orderCall : Plate → List ℕ → ℕ → OrderOutcome
 orderCall p slice w =
     let c = orderRoom (length slice) in
     let r = order p in
-    let a = checked (p .points) (p .lengths) (orderWork p w (fitted c (length r) (length r))) in
+    let a = checked (p .points) (p .lengths) (p .layers) (orderWork p w (fitted c (length r) (length r))) in
     record { answer = a; order = after a c (entries r) slice }
 
 -- `path` is the path slice, w the length of the work slice
@@ -49,7 +49,7 @@ unfoldable pub straightCall : Plate → List Float → ℕ → StraightOutcome
 straightCall p path w =
     let c = straightRoom (length path) in
     let r = straight (order p) in
-    let a = checked (p .points) (p .lengths) (orderWork p w (fitted c (length r) (length r))) in
+    let a = checked (p .points) (p .lengths) (p .layers) (orderWork p w (fitted c (length r) (length r))) in
     record { answer = a; path = after a c (coordinates (p .points) r) path }
 
 -- path points, and S, B and n − 1 as the marks have them
@@ -72,5 +72,5 @@ unfoldable pub retraceCall : Plate → List Float → List ℕ → ℕ → ℕ �
 retraceCall p path ms w d =
     let c = retraceRoom (length path) (length ms) in
     let r = retrace p in
-    let a = checked (p .points) (p .lengths) (retraceWork p c w d (fitted c (length r) (counts r))) in
+    let a = checked (p .points) (p .lengths) (p .layers) (retraceWork p c w d (fitted c (length r) (counts r))) in
     record { answer = a; path = after a c (coordinates (p .points) (vertices r)) path; marks = after a c (marks r) ms }

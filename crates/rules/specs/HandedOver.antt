@@ -1,18 +1,19 @@
--- "What is handed over" of document 01: points and contours, and the refusals with their order and their places. Definitions only.
+-- "What is handed over" of document 01, with the layers of document 02: points and contours, and the refusals with their order and their places. Definitions
+-- only.
 use mathlib.Core.Path.{_≡_}
 use Prim.Native.Nat.{ℕ, zero, suc, _+_, _*_, _/_, min}
 use mathlib.Core.Bool.{Bool, true, false, not, _&&_}
 use mathlib.Core.List.{List, [], _∷_, _++_}
-use lib.Dec.{T, ltb, eqb}
+use lib.Dec.{T, leb, ltb, eqb}
 use lib.ListN.{length, take, drop, getD}
 use lib.IntN.{pos}
 use lib.Ieee.{Float, nan, fin, neg, le}
-use Rattle.rules.specs.Tools.{pick, sum}
+use Rattle.rules.specs.Tools.{pick, sum, highestLayer}
 use Rattle.rules.specs.declared.Point.{Point}
 use Rattle.rules.specs.declared.StartPointStrategy.{StartPointStrategy}
 use Rattle.rules.specs.declared.Counts.{Counts}
 use Rattle.rules.specs.declared.Refusal.{Refusal}
-use Rattle.rules.specs.declared.Refusal.the-variants.{TooManyContours, TooManyPoints, Miscounted, OffThePlate, WorkShort, Full, Blank}
+use Rattle.rules.specs.declared.Refusal.the-variants.{TooManyContours, TooManyPoints, Miscounted, OffThePlate, WorkShort, Full, Blank, BadLayer}
 use Rattle.rules.specs.declared.DistanceAnswer.{DistanceAnswer}
 use Rattle.rules.specs.declared.DistanceAnswer.the-variants.{Distances, NoDistances}
 use Rattle.rules.specs.declared.StartAnswer.{StartAnswer}
@@ -31,12 +32,14 @@ pub record Plate : Type 0 where
   -- horizontal then vertical, each contour's points following the last's
   pub points : List Float
   pub lengths : List ℕ
+  -- of each contour, skipped ones too
+  pub layers : List ℕ
   pub width : ℕ
   pub height : ℕ
   pub strategy : StartPointStrategy
 
-unfoldable pub plate : List Float → List ℕ → ℕ → ℕ → StartPointStrategy → Plate
-plate xs ns w h s = record { points = xs; lengths = ns; width = w; height = h; strategy = s }
+unfoldable pub plate : List Float → List ℕ → List ℕ → ℕ → ℕ → StartPointStrategy → Plate
+plate xs ns ls w h s = record { points = xs; lengths = ns; layers = ls; width = w; height = h; strategy = s }
 
 -- the point at a place of an f64 slice: of the points, that of a vertex number
 unfoldable pub at : List Float → ℕ → Point
@@ -60,6 +63,10 @@ contours p = contoursFrom 0 0 (p .lengths)
 -- vertex i of a contour, counted from 0 within it
 unfoldable pub vertexAt : Plate → Contour → ℕ → Point
 vertexAt p c i = at (p .points) (c .first + i)
+
+-- the layer of a contour
+unfoldable pub layerAt : Plate → Contour → ℕ
+layerAt p c = getD (p .layers) (c .number) 0
 
 -- ---- C, by the lengths of the output slices
 
@@ -88,6 +95,7 @@ refusal (OffThePlate place) = refuses 4 place
 refusal (WorkShort place) = refuses 5 place
 refusal (Full place) = refuses 6 place
 refusal Blank = refuses 7 0
+refusal (BadLayer place) = refuses 13 place
 
 -- the paper's values for each case of an answer
 unfoldable pub distanceAnswer : DistanceAnswer → Answer (Float × Float)
@@ -128,18 +136,40 @@ unfoldable pub firstOff : Float → ℕ → List Float → ℕ
 firstOff limit i [] = i
 firstOff limit i (x ∷ xs) = let rest = firstOff limit (suc i) xs in pick (inRange limit x) rest i
 
+-- the number of the first contour with a layer above the highest, counted from i, or the number after the last
+unfoldable pub firstBad : ℕ → List ℕ → ℕ
+firstBad i [] = i
+firstBad i (l ∷ ls) = let rest = firstBad (suc i) ls in pick (leb l highestLayer) rest i
+
 -- the refusal with this number and place where its condition holds, else what the later conditions say
 unfoldable pub refuseIf : {A : Type 0} → Bool → ℕ → ℕ → Answer A → Answer A
 refuseIf true number place later = refuses number place
 refuseIf false number place later = later
 
--- refusals 1 to 4, of points and lengths
-unfoldable pub checked : {A : Type 0} → List Float → List ℕ → Answer A → Answer A
-checked xs ns later =
+-- refusals 1 to 3, of points and lengths
+unfoldable pub counted : {A : Type 0} → List Float → List ℕ → Answer A → Answer A
+counted xs ns later =
     refuseIf (ltb 4096 (length ns)) 1 0
     (refuseIf (ltb 65536 (sum ns)) 2 0
-    (refuseIf (not (eqb (length xs) (2 * sum ns))) 3 0
-    (refuseIf (ltb (firstOff plateLimit 0 xs) (length xs)) 4 (firstOff plateLimit 0 xs) later)))
+    (refuseIf (not (eqb (length xs) (2 * sum ns))) 3 0 later))
+
+-- refusal 13, of the layers of m contours: a wrong length of the slice comes first
+unfoldable pub layered : {A : Type 0} → ℕ → List ℕ → Answer A → Answer A
+layered m ls later =
+    refuseIf (not (eqb (length ls) m)) 13 m
+    (refuseIf (ltb (firstBad 0 ls) (length ls)) 13 (firstBad 0 ls) later)
+
+-- refusal 4, of the points
+unfoldable pub onPlate : {A : Type 0} → List Float → Answer A → Answer A
+onPlate xs later = refuseIf (ltb (firstOff plateLimit 0 xs) (length xs)) 4 (firstOff plateLimit 0 xs) later
+
+-- refusals 1 to 4, of contours without layers
+unfoldable pub checkedContours : {A : Type 0} → List Float → List ℕ → Answer A → Answer A
+checkedContours xs ns later = counted xs ns (onPlate xs later)
+
+-- refusals 1 to 3, 13 and 4
+unfoldable pub checked : {A : Type 0} → List Float → List ℕ → List ℕ → Answer A → Answer A
+checked xs ns ls later = counted xs ns (layered (length ns) ls (onPlate xs later))
 
 -- refusal 5: work and distances are the lengths of the u32 and the f64 work slice
 unfoldable pub orderWork : {A : Type 0} → Plate → ℕ → Answer A → Answer A

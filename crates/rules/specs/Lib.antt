@@ -10,3 +10,4 @@ pub mod Calls
 pub mod PathStatement
 pub mod MarkedPlates
 pub mod UndividedPaths
+pub mod FallingPaths

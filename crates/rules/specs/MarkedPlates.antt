@@ -2,7 +2,8 @@
 -- mistake apart that its comment names.
 -- No expected value comes from the definitions. Paths, orders, starts, distances and grids are what the Rust gives for these plates, its functions unchanged.
 -- Marks are those of a separate transcription of the Rust that writes marks too, its paths being equal to the Rust's; counts are how many marks there are
--- of a kind. Refusals, their places and what the slices then hold follow document 01's text, worked out by hand.
+-- of a kind. Refusals, their places and what the slices then hold follow document 01's text, worked out by hand. The rows of layers, at the end, follow
+-- document 02's text, worked out by hand.
 use mathlib.Core.Path.{_≡_, refl}
 use Prim.Native.Nat.{ℕ, zero, suc, _+_, _*_, _^_}
 use mathlib.Core.Bool.{Bool, true, false}
@@ -10,19 +11,19 @@ use mathlib.Core.List.{List, [], _∷_, _++_, map}
 use lib.IntN.{pos, negsuc}
 use lib.ListN.{length, replicate}
 use lib.Ieee.{Float, nan, inf, fin, binary64, round, neg, add, sub, mul, div, rem, le, ofInt, toUnsigned}
-use Rattle.rules.specs.Tools.{pick, sum, without, leads, winner, lesser, greater}
-use Rattle.rules.specs.HandedOver.{Plate, plate, at, contoursFrom, contours, vertexAt, orderRoom, straightRoom, retraceRoom}
-use Rattle.rules.specs.HandedOver.{Answer, gives, refuses, inRange, plateLimit, distanceLimit, firstOff, refuseIf, checked, orderWork, retraceWork}
+use Rattle.rules.specs.Tools.{pick, sum, without, having, least, leads, winner, highestLayer, lowest, foremost, lesser, greater}
+use Rattle.rules.specs.HandedOver.{Plate, plate, at, contoursFrom, contours, vertexAt, layerAt, orderRoom, straightRoom, retraceRoom}
+use Rattle.rules.specs.HandedOver.{Answer, gives, refuses, inRange, plateLimit, distanceLimit, firstOff, firstBad, refuseIf, counted, layered, onPlate, checked, orderWork, retraceWork}
 use Rattle.rules.specs.HandedOver.{fitted, over, after}
 use Rattle.rules.specs.Distances.{mulAdd, rootBy, floorRoot, roundRoot, sqrt, distanceSquared, distance}
-use Rattle.rules.specs.Start.{half, centre, oriented, ends, beats, start}
+use Rattle.rules.specs.Start.{half, centre, oriented, ends, layerOf, beats, start}
 use Rattle.rules.specs.GridAndNearest.{widen, boxFrom, box, cellSize, ceiling, cellsAlong, gridOf, indexAlong, cellOf, square, within, onBorder}
 use Rattle.rules.specs.GridAndNearest.{seenFrom, found, wins, nearer, scanRing, bound, beyond, scanFrom, nearest}
 use Rattle.rules.specs.SamplesAndCache.{sampledAfter, sampled, cellNumber, cellAt, sampleAt, samplesFrom, samples, cache, cached, querySample, seeded}
 use Rattle.rules.specs.SamplesAndCache.{met, listed, listedRow, listedSquare, listedAround, cellsAround, queryIn, updatedIn, updated}
 use Rattle.rules.specs.SamplesAndCache.{waiting, askPath, keep, seed, update}
 use Rattle.rules.specs.RetraceAndMarks.{land, cutUp, cutDown, backStep, stepAt, vertexOf, walkTo, walkBack, forward as forwardSteps, backward}
-use Rattle.rules.specs.RetraceAndMarks.{returnTo, bothWays, emit, begin, pathPoints, closer, choose, numberOf, placeIn, entered, joinAll}
+use Rattle.rules.specs.RetraceAndMarks.{returnTo, bothWays, emit, begin, pathPoints, closer, waitingLayer, choose, numberOf, placeIn, entered, joinAll}
 use Rattle.rules.specs.RetraceAndMarks.{retraceFrom, retraceOf, retrace, coordinates, marks, countMarks, marksOf}
 use Rattle.rules.specs.OrderAndStraight.{lastEnd, nearerSense, nearerEnd, contourNumber, orderAfter, orderFrom, orderOf, order, entries, straight}
 use Rattle.rules.specs.Calls.{distanceCall, startOr, startCall, orderCall, straightCall, counts, vertices, retraceCall}
@@ -79,11 +80,15 @@ pointsOf unit (c ∷ cs) = along unit c ++ pointsOf unit cs
 
 -- contours drawn in some unit; width by height
 drawn : (ℕ → Float) → List (List (ℕ × ℕ)) → ℕ → ℕ → StartPointStrategy → Plate
-drawn unit cs w h s = plate (pointsOf unit cs) (map length cs) w h s
+drawn unit cs w h s = plate (pointsOf unit cs) (map length cs) (replicate (length cs) 0) w h s
 
 -- points and lengths as they are handed over, right or wrong
 handed : List Float → List ℕ → Plate
-handed xs ns = plate xs ns 0 0 Outside
+handed xs ns = plate xs ns (replicate (length ns) 0) 0 0 Outside
+
+-- a plate with other layers
+inLayers : List ℕ → Plate → Plate
+inLayers ls p = plate (p .points) (p .lengths) ls (p .width) (p .height) (p .strategy)
 
 point : Float → Float → Point
 point a b = record { x = a; y = b }
@@ -125,6 +130,8 @@ pub data Call : Type 0 where
   roomIn : ℕ → Call
   -- not a call: the grid of a plate
   gridOn : Plate → Call
+  -- not a call: start, order and path by the rules, refusals aside
+  rulesOn : Plate → Call
 
 -- the answer, and the output slices afterwards
 pub data Reply : Type 0 where
@@ -138,6 +145,8 @@ pub data Reply : Type 0 where
   room : ℕ → ℕ → ℕ → Reply
   -- cell size, columns and rows
   grid : Float → ℕ → ℕ → Reply
+  -- the start, the order's entries and the path's marks
+  ruled : Answer (ℕ × Bool) → List ℕ → List ℕ → Reply
 
 pub record Row : Type 0 where
   pub call : Call
@@ -201,6 +210,7 @@ replyTo (straightOn p n w) = let o = straightCall p (unwrittenPath n) w in strai
 replyTo (retraceOn p n m w d) = let o = retraceCall p (unwrittenPath n) (unwritten m) w d in retraced (o .answer) (map computed (o .path)) (o .marks)
 replyTo (roomIn n) = room (orderRoom n) (straightRoom n) (retraceRoom n n)
 replyTo (gridOn p) = let g = gridOf (box (p .points)) in grid (computed (g .«cell_size»)) (g .cols) (g .rows)
+replyTo (rulesOn p) = ruled (startOr (start p)) (entries (order p)) (marks (retrace p))
 
 -- ---- plates and points of more than one row
 
@@ -235,6 +245,16 @@ I = point (binary (2 ^ 27 + 1) 27) (binary 5 29)
 -- with contours that are skipped
 skipping : Plate
 skipping = drawn whole ([] ∣ (0, 0) ∷ (4, 0) ∷ [] ∣ [] ∣ (9, 0) ∷ (5, 0) ∷ [] ∣ (1, 1) ∷ (1, 2) ∷ [] ∣ (9, 1) ∷ [] ∣ []) 0 0 Inside
+
+-- the last point is farther from the first than the other
+threePoints : Plate
+threePoints = drawn whole ((0, 0) ∷ [] ∣ (1, 0) ∷ [] ∣ (0, 2) ∷ [] ∣ []) 0 0 Inside
+
+fourPoints : Plate
+fourPoints = drawn whole ((0, 0) ∷ [] ∣ (1, 0) ∷ [] ∣ (0, 9) ∷ [] ∣ (0, 2) ∷ [] ∣ []) 0 0 Inside
+
+skippedFirst : Plate
+skippedFirst = drawn whole ([] ∣ (0, 0) ∷ (1, 0) ∷ [] ∣ (5, 0) ∷ [] ∣ []) 0 0 Inside
 
 -- the next f64 above 1,000,000, and above 2,147,483,648
 abovePlateLimit : Float
@@ -594,21 +614,85 @@ table =
     -- 7: the start call only; a contour that holds no point is none
     ∷ startOn (handed [] (0 ∷ 0 ∷ [])) ⇒ starts (refuses 7 0)
     ∷ retraceIn 1 (handed [] (0 ∷ 0 ∷ [])) ⇒ retraced (joined 0 0 0 0) (unwrittenPath 2) (unwritten 2)
+    -- ---- layers
+    -- a nearer contour of a higher layer waits, in order, straight and retrace
+    ∷ orderIn 3 (inLayers (0 ∷ 1 ∷ 0 ∷ []) threePoints) ⇒ ordered (gives 3) (pairs ((0, 0) ∷ (2, 0) ∷ (1, 0) ∷ []))
+    ∷ straightIn 3 (inLayers (0 ∷ 1 ∷ 0 ∷ []) threePoints) ⇒ straightened (gives 3) (along whole ((0, 0) ∷ (0, 2) ∷ (1, 0) ∷ []))
+    ∷ retraces (inLayers (0 ∷ 1 ∷ 0 ∷ []) threePoints)
+    (along whole ((0, 0) ∷ (0, 2) ∷ (0, 0) ∷ (1, 0) ∷ []))
+    ((0, 0) ∷ (3, 2) ∷ (2, 0) ∷ (3, 1) ∷ [])
+    (joined 4 0 1 2)
+    -- of the lowest layer the nearest is taken, though one of a higher layer is nearer
+    ∷ orderIn 4 (inLayers (0 ∷ 1 ∷ 0 ∷ 0 ∷ []) fourPoints) ⇒ ordered (gives 4) (pairs ((0, 0) ∷ (3, 0) ∷ (2, 0) ∷ (1, 0) ∷ []))
+    ∷ retraces (inLayers (0 ∷ 1 ∷ 0 ∷ 0 ∷ []) fourPoints)
+    (along whole ((0, 0) ∷ (0, 2) ∷ (0, 9) ∷ (0, 2) ∷ (0, 0) ∷ (1, 0) ∷ []))
+    ((0, 0) ∷ (3, 3) ∷ (3, 2) ∷ (2, 1) ∷ (2, 0) ∷ (3, 1) ∷ [])
+    (joined 6 0 2 3)
+    -- one layer for all contours, the highest: the order without layers
+    ∷ orderIn 3 (inLayers (15 ∷ 15 ∷ 15 ∷ []) threePoints) ⇒ ordered (gives 3) (pairs ((0, 0) ∷ (1, 0) ∷ (2, 0) ∷ []))
+    -- three layers, which decide before the distance: lowest to highest, whatever their order in the slice
+    ∷ orderIn 3 (inLayers (15 ∷ 7 ∷ 0 ∷ []) threePoints) ⇒ ordered (gives 3) (pairs ((2, 0) ∷ (1, 0) ∷ (0, 0) ∷ []))
+    ∷ retraces (inLayers (15 ∷ 7 ∷ 0 ∷ []) threePoints) (along whole ((0, 2) ∷ (1, 0) ∷ (0, 0) ∷ [])) ((0, 2) ∷ (3, 1) ∷ (3, 0) ∷ []) (joined 3 0 0 2)
+    -- the start is in the lowest layer, though an end of another is nearer, or farther for Outside
+    ∷ startOn (inLayers (1 ∷ 0 ∷ []) (drawn whole ((0, 0) ∷ (1, 0) ∷ [] ∣ (5, 0) ∷ (3, 0) ∷ [] ∣ []) 0 0 Inside)) ⇒ starts (gives (1, reversed))
+    ∷ startOn (inLayers (3 ∷ 2 ∷ []) (drawn whole ((9, 0) ∷ [] ∣ (1, 0) ∷ (2, 0) ∷ [] ∣ []) 0 0 Outside)) ⇒ starts (gives (1, reversed))
+    -- the first of a later layer is the nearest to the last end, not the one that the strategy takes
+    ∷ orderIn 3 (inLayers (0 ∷ 1 ∷ 1 ∷ []) (drawn whole ((0, 0) ∷ (5, 0) ∷ [] ∣ (2, 0) ∷ [] ∣ (4, 0) ∷ [] ∣ []) 0 0 Inside))
+    ⇒ ordered (gives 3) (pairs ((0, 0) ∷ (2, 0) ∷ (1, 0) ∷ []))
+    -- a skipped contour of a lower layer keeps no other one waiting
+    ∷ orderIn 2 (inLayers (0 ∷ 2 ∷ 1 ∷ []) skippedFirst) ⇒ ordered (gives 2) (pairs ((2, 0) ∷ (1, 1) ∷ []))
+    ∷ retraces (inLayers (0 ∷ 2 ∷ 1 ∷ []) skippedFirst) (along whole ((5, 0) ∷ (1, 0) ∷ (0, 0) ∷ [])) ((0, 2) ∷ (3, 1) ∷ (1, 0) ∷ []) (joined 3 1 0 1)
+    -- samples of a higher layer are queried after the start, and after each contour of a lower layer
+    ∷ retraces (inLayers (0 ∷ 1 ∷ 0 ∷ []) (drawn whole ((0, 0) ∷ [] ∣ (9, 3) ∷ (0, 3) ∷ [] ∣ (20, 0) ∷ [] ∣ []) 0 0 Inside))
+    (along whole ((0, 0) ∷ (20, 0) ∷ (0, 0) ∷ (0, 3) ∷ (9, 3) ∷ []))
+    ((0, 0) ∷ (3, 3) ∷ (2, 0) ∷ (3, 2) ∷ (1, 1) ∷ [])
+    (joined 5 1 1 2)
+    ∷ retraces (inLayers (0 ∷ 1 ∷ 0 ∷ []) (drawn whole ((0, 0) ∷ [] ∣ (0, 3) ∷ (9, 0) ∷ [] ∣ (9, 0) ∷ [] ∣ []) 0 0 Inside))
+    (along whole ((0, 0) ∷ (9, 0) ∷ (9, 0) ∷ (0, 3) ∷ []))
+    ((0, 0) ∷ (3, 3) ∷ (3, 2) ∷ (1, 1) ∷ [])
+    (joined 4 1 0 2)
+    -- 13: a wrong length of the slice comes first, place M; then the first contour with a layer above 15, a skipped one too
+    ∷ startOn (inLayers (16 ∷ 0 ∷ []) threePoints) ⇒ starts (refuses 13 3)
+    ∷ startOn (inLayers (0 ∷ 0 ∷ 0 ∷ 0 ∷ []) threePoints) ⇒ starts (refuses 13 3)
+    ∷ startOn (inLayers (0 ∷ []) A) ⇒ starts (refuses 13 0)
+    ∷ orderIn 3 (inLayers (15 ∷ 16 ∷ 17 ∷ []) threePoints) ⇒ ordered (refuses 13 1) (unwritten 6)
+    ∷ straightIn 2 (inLayers (0 ∷ 0 ∷ 0 ∷ 0 ∷ 0 ∷ 4294967295 ∷ []) skipping) ⇒ straightened (refuses 13 5) (unwrittenPath 4)
+    ∷ retraceIn 3 (inLayers (0 ∷ 16 ∷ 0 ∷ []) threePoints) ⇒ retraced (refuses 13 1) (unwrittenPath 6) (unwritten 6)
+    ∷ retraceIn 1 (inLayers (16 ∷ 0 ∷ []) (handed [] (0 ∷ 0 ∷ []))) ⇒ retraced (refuses 13 0) (unwrittenPath 2) (unwritten 2)
+    -- 1, 2 and 3 before 13, of either kind
+    ∷ startOn (inLayers [] (handed [] (replicate 4097 0))) ⇒ starts (refuses 1 0)
+    ∷ startOn (inLayers (replicate 4097 16) (handed [] (replicate 4097 0))) ⇒ starts (refuses 1 0)
+    ∷ startOn (inLayers [] (handed [] (65537 ∷ []))) ⇒ starts (refuses 2 0)
+    ∷ startOn (inLayers (16 ∷ []) (handed [] (65537 ∷ []))) ⇒ starts (refuses 2 0)
+    ∷ startOn (inLayers [] (handed (nan ∷ []) (1 ∷ []))) ⇒ starts (refuses 3 0)
+    ∷ startOn (inLayers (16 ∷ []) (handed (nan ∷ []) (1 ∷ []))) ⇒ starts (refuses 3 0)
+    -- 13, of either kind, before 4; 13 before 5, 6 and 7
+    ∷ startOn (inLayers (16 ∷ []) (handed (nan ∷ nan ∷ []) (1 ∷ []))) ⇒ starts (refuses 13 0)
+    ∷ startOn (inLayers [] (handed (nan ∷ nan ∷ []) (1 ∷ []))) ⇒ starts (refuses 13 1)
+    ∷ orderOn (inLayers (16 ∷ 0 ∷ 0 ∷ []) threePoints) 0 0 ⇒ ordered (refuses 13 0) []
+    ∷ orderOn (inLayers (16 ∷ 0 ∷ 0 ∷ []) threePoints) 4 3 ⇒ ordered (refuses 13 0) (unwritten 4)
+    ∷ straightOn (inLayers (16 ∷ 0 ∷ 0 ∷ []) threePoints) 0 0 ⇒ straightened (refuses 13 0) []
+    ∷ retraceOn (inLayers (16 ∷ 0 ∷ 0 ∷ []) threePoints) 0 0 0 0 ⇒ retraced (refuses 13 0) [] []
+    ∷ startOn (inLayers (16 ∷ []) (handed [] (0 ∷ []))) ⇒ starts (refuses 13 0)
+    -- What no call reaches, since it refuses with 13: a contour with a layer above 15 is never chosen, and the vertex numbers of later contours count its
+    -- points.
+    ∷ rulesOn (inLayers (16 ∷ 15 ∷ 17 ∷ []) threePoints) ⇒ ruled (gives (1, forward)) (pairs ((1, 0) ∷ [])) (pairs ((0, 1) ∷ []))
+    ∷ rulesOn (inLayers (16 ∷ 17 ∷ 16 ∷ []) threePoints) ⇒ ruled (refuses 7 0) [] []
     ∷ []
 
 -- each row's reply is what the definitions reply
 pub plates : map (λ r. replyTo (r .call)) table ≡ map (λ r. r .reply) table
 unfolding
-    table whole decimal binary tenths minusTenths hundredths thousandths sixteenths sixtyFourths _∣_ along pointsOf drawn handed point pairs
+    table whole decimal binary tenths minusTenths hundredths thousandths sixteenths sixtyFourths _∣_ along pointsOf drawn handed inLayers point pairs
     unwritten unwrittenPath forward reversed joined _⇒_ orderIn straightIn retraceIn retraces numeral computed bothComputed replyTo
-    A B C D E F G zeroPoint I skipping abovePlateLimit aboveDistanceLimit
+    A B C D E F G zeroPoint I skipping threePoints fourPoints skippedFirst abovePlateLimit aboveDistanceLimit
     -- floats
     neg add sub mul div rem le ofInt toUnsigned
     -- Tools, HandedOver
-    pick sum without leads winner lesser greater plate at contoursFrom contours vertexAt orderRoom straightRoom retraceRoom
-    inRange plateLimit distanceLimit firstOff refuseIf checked orderWork retraceWork fitted over after
+    pick sum without having least leads winner highestLayer lowest foremost lesser greater plate at contoursFrom contours vertexAt layerAt orderRoom straightRoom retraceRoom
+    inRange plateLimit distanceLimit firstOff firstBad refuseIf counted layered onPlate checked orderWork retraceWork fitted over after
     -- Distances, Start
-    mulAdd rootBy floorRoot roundRoot sqrt distanceSquared distance half centre oriented ends beats start
+    mulAdd rootBy floorRoot roundRoot sqrt distanceSquared distance half centre oriented ends layerOf beats start
     -- GridAndNearest
     widen boxFrom box cellSize ceiling cellsAlong gridOf indexAlong cellOf square within onBorder
     seenFrom found wins nearer scanRing bound beyond scanFrom nearest
@@ -616,7 +700,7 @@ unfolding
     sampledAfter sampled cellNumber cellAt sampleAt samplesFrom samples cache cached querySample seeded
     met listed listedRow listedSquare listedAround cellsAround queryIn updatedIn updated waiting askPath keep seed update
     -- RetraceAndMarks
-    land cutUp cutDown backStep stepAt vertexOf walkTo walkBack forwardSteps backward returnTo bothWays emit begin pathPoints closer choose numberOf placeIn
+    land cutUp cutDown backStep stepAt vertexOf walkTo walkBack forwardSteps backward returnTo bothWays emit begin pathPoints closer waitingLayer choose numberOf placeIn
     entered joinAll retraceFrom retraceOf retrace coordinates marks countMarks marksOf
     -- OrderAndStraight, Calls
     lastEnd nearerSense nearerEnd contourNumber orderAfter orderFrom orderOf order entries straight

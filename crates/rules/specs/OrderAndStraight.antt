@@ -1,13 +1,13 @@
--- "Order and straight" of document 01. Definitions only.
+-- "Order and straight" of document 01, with the layers of document 02. Definitions only.
 use Prim.Native.Nat.{ℕ, zero, suc, _+_}
 use mathlib.Core.Bool.{Bool, true, false}
 use mathlib.Core.List.{List, [], _∷_, _++_, map}
 use mathlib.Core.Option.{Option, none, some}
 use lib.ListN.{length}
 use lib.Ieee.{lt, le}
-use Rattle.rules.specs.Tools.{pick, upFrom, downTo, without, winner}
+use Rattle.rules.specs.Tools.{pick, upFrom, downTo, without, foremost}
 use Rattle.rules.specs.HandedOver.{Plate, Contour, contours, vertexAt}
-use Rattle.rules.specs.Start.{Oriented, oriented, start}
+use Rattle.rules.specs.Start.{Oriented, oriented, layerOf, start}
 use Rattle.rules.specs.declared.Point.{Point}
 
 -- where a contour in its sense ends
@@ -32,7 +32,7 @@ contourNumber c = c .number
 unfoldable pub orderAfter : Plate → ℕ → List Contour → Oriented → List Oriented
 orderAfter p zero cs s = []
 orderAfter p (suc n) cs s =
-    elim (winner nearerEnd (map (nearerSense p (lastEnd p s)) cs)) [
+    elim (foremost (layerOf p) nearerEnd (map (nearerSense p (lastEnd p s)) cs)) [
       | none ↦ []
       | some t ↦ t ∷ orderAfter p n (without contourNumber (t .contour .number) cs) t
     ]

@@ -1,5 +1,5 @@
--- The path statement (demand 3): how the marks divide the pairs of neighbouring path points, said of the slices that the retrace call wrote.
--- Definitions only; the last of them is what is to be proved.
+-- The path statement (demand 3): how the marks divide the pairs of neighbouring path points, said of the slices that the retrace call wrote; and the layers
+-- along the path (document 02, ticket 9). Definitions only; the last two are what is to be proved.
 use mathlib.Core.Path.{_≡_}
 use mathlib.Core.Logic.{_⊎_}
 use mathlib.Core.Bool.{Bool, true, false, not, _&&_}
@@ -9,7 +9,7 @@ use lib.Dec.{T, eqb}
 use lib.ListN.{length, getD, take, drop}
 use lib.Ieee.{Float, lt}
 use Rattle.rules.specs.Tools.{sum, pick}
-use Rattle.rules.specs.HandedOver.{Plate, Contour, at, contours, Answer, gives}
+use Rattle.rules.specs.HandedOver.{Plate, Contour, at, contours, layerAt, Answer, gives}
 use Rattle.rules.specs.Distances.{distanceSquared}
 use Rattle.rules.specs.GridAndNearest.{box, gridOf, cellOf, square, within}
 use Rattle.rules.specs.RetraceAndMarks.{startKind, cutKind, backStepKind, jumpKind, retrace, coordinates, marks, countMarks, marksOf}
@@ -114,6 +114,18 @@ pub record Divides (p : Plate) (c : Counts) (path : List Float) (ms : List ℕ) 
   -- each segment of each contour is cut exactly once
   pub once : (d : Contour) → IsContour p d → (i : ℕ) → i < d .last → cutsOf (d .first + i) ms ≡ 1
 
+-- ---- the layers along the path
+
+-- Path point k is new on contour c: its mark lands on a vertex of c, or cuts a segment of c. A back-step draws nothing.
+pub record Draws (p : Plate) (ms : List ℕ) (k : ℕ) (c : Contour) : Type 0 where
+  pub contour : IsContour p c
+  pub new : kindAt ms k ≡ backStepKind → ⊥
+  pub of : Of c (referenceAt ms k)
+
+-- among the first n path points the layers of what is cut, and of what is entered, never fall
+unfoldable pub NeverFall : Plate → ℕ → List ℕ → Type 0
+NeverFall p n ms = (i j : ℕ) → i < j → j < n → (c d : Contour) → Draws p ms i c → Draws p ms j d → layerAt p c ≤ layerAt p d
+
 -- What the retrace call finishes, with one contour or more: path and marks are those of document 01's rules, and they divide as said.
 unfoldable pub PathStatement : Type 0
 PathStatement =
@@ -126,3 +138,11 @@ PathStatement =
     × (o .path ≡ coordinates (p .points) (vertices r) ++ drop (2 * c .points) path)
     × (o .marks ≡ marks r ++ drop (2 * c .points) ms)
     × Divides p c (take (2 * c .points) (o .path)) (take (2 * c .points) (o .marks))
+
+-- and along that path the layers never fall
+unfoldable pub LayerStatement : Type 0
+LayerStatement =
+    (p : Plate) (path : List Float) (ms : List ℕ) (w d : ℕ) (c : Counts) →
+    let o = retraceCall p path ms w d in
+    o .answer ≡ gives c →
+    NeverFall p (c .points) (take (2 * c .points) (o .marks))

@@ -1,5 +1,5 @@
--- "Retrace and marks" of document 01. Every path point has the coordinates of a vertex, so the path is a list of steps, each a vertex and a mark; the
--- slices are its coordinates and its marks. Definitions only.
+-- "Retrace and marks" of document 01, with the layers of document 02. Every path point has the coordinates of a vertex, so the path is a list of steps, each
+-- a vertex and a mark; the slices are its coordinates and its marks. Definitions only.
 use Prim.Native.Nat.{ℕ, zero, suc, _+_, _-_, _*_}
 use mathlib.Core.Bool.{Bool, true, false}
 use mathlib.Core.List.{List, [], _∷_, _++_, map}
@@ -7,8 +7,8 @@ use mathlib.Core.Option.{Option, none, some}
 use lib.Dec.{eqb}
 use lib.ListN.{length, getD}
 use lib.Ieee.{Float, lt}
-use Rattle.rules.specs.Tools.{pick, upFrom, downTo, without, winner}
-use Rattle.rules.specs.HandedOver.{Plate, Contour, at, contours, vertexAt}
+use Rattle.rules.specs.Tools.{pick, upFrom, downTo, without, foremost}
+use Rattle.rules.specs.HandedOver.{Plate, Contour, at, contours, vertexAt, layerAt}
 use Rattle.rules.specs.Start.{Oriented, start}
 use Rattle.rules.specs.GridAndNearest.{box, gridOf, nearest}
 use Rattle.rules.specs.SamplesAndCache.{Waiting, waiting, seed, update, cellsAround}
@@ -104,8 +104,11 @@ pathPoints p path = map (λ s. at (p .points) (s .vertex)) path
 unfoldable pub closer : Waiting → Waiting → Bool
 closer w best = lt (w .kept .squared) (best .kept .squared)
 
-unfoldable pub choose : List Waiting → Option Waiting
-choose ws = winner closer ws
+unfoldable pub waitingLayer : Plate → Waiting → ℕ
+waitingLayer p w = layerAt p (w .contour)
+
+unfoldable pub choose : Plate → List Waiting → Option Waiting
+choose p ws = foremost (waitingLayer p) closer ws
 
 unfoldable pub numberOf : Waiting → ℕ
 numberOf w = w .contour .number
@@ -126,7 +129,7 @@ entered p g path w =
 unfoldable pub joinAll : Plate → SpatialGrid → ℕ → List Waiting → List Step → List Step
 joinAll p g zero ws path = path
 joinAll p g (suc n) ws path =
-    elim (choose ws) [
+    elim (choose p ws) [
       | none ↦ path
       | some w ↦
           let next = entered p g path w in

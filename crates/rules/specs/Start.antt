@@ -1,12 +1,12 @@
--- "Start" of document 01. Definitions only.
+-- "Start" of document 01, with the layers of document 02. Definitions only.
 use Prim.Native.Nat.{ℕ}
 use mathlib.Core.Bool.{Bool, true, false}
 use mathlib.Core.List.{List, [], _∷_}
 use mathlib.Core.Option.{Option}
 use lib.IntN.{pos}
 use lib.Ieee.{Float, fin, binary64, ofInt, div, lt}
-use Rattle.rules.specs.Tools.{pick, winner}
-use Rattle.rules.specs.HandedOver.{Plate, Contour, contours, vertexAt}
+use Rattle.rules.specs.Tools.{pick, foremost}
+use Rattle.rules.specs.HandedOver.{Plate, Contour, contours, vertexAt, layerAt}
 use Rattle.rules.specs.Distances.{distanceSquared}
 use Rattle.rules.specs.declared.Point.{Point}
 use Rattle.rules.specs.declared.StartPointStrategy.{StartPointStrategy}
@@ -32,10 +32,13 @@ unfoldable pub ends : Plate → Point → List Contour → List Oriented
 ends p q [] = []
 ends p q (c ∷ cs) = oriented p q false c ∷ oriented p q true c ∷ ends p q cs
 
+unfoldable pub layerOf : Plate → Oriented → ℕ
+layerOf p s = layerAt p (s .contour)
+
 -- Outside takes a strictly larger squared distance, Inside a strictly smaller one
 unfoldable pub beats : StartPointStrategy → Oriented → Oriented → Bool
 beats Outside new best = lt (best .squared) (new .squared)
 beats Inside new best = lt (new .squared) (best .squared)
 
 unfoldable pub start : Plate → Option Oriented
-start p = winner (beats (p .strategy)) (ends p (centre (p .width) (p .height)) (contours p))
+start p = foremost (layerOf p) (beats (p .strategy)) (ends p (centre (p .width) (p .height)) (contours p))

@@ -1,9 +1,9 @@
 -- Choice, lists of numbers, folds and winners: what the other files are written with. Definitions only.
-use Prim.Native.Nat.{ℕ, zero, suc, _+_}
+use Prim.Native.Nat.{ℕ, zero, suc, _+_, min}
 use mathlib.Core.Bool.{Bool, true, false}
-use mathlib.Core.List.{List, [], _∷_}
+use mathlib.Core.List.{List, [], _∷_, map}
 use mathlib.Core.Option.{Option, none, some}
-use lib.Dec.{eqb}
+use lib.Dec.{leb, eqb}
 use lib.Ieee.{Float, lt}
 
 -- a where the test passes, else b
@@ -34,6 +34,16 @@ unfoldable pub without : {A : Type 0} → (A → ℕ) → ℕ → List A → Lis
 without number n [] = []
 without number n (x ∷ xs) = let rest = without number n xs in pick (eqb (number x) n) rest (x ∷ rest)
 
+-- those of a list that have the number n
+unfoldable pub having : {A : Type 0} → (A → ℕ) → ℕ → List A → List A
+having number n [] = []
+having number n (x ∷ xs) = let rest = having number n xs in pick (eqb (number x) n) (x ∷ rest) rest
+
+-- the least of a list of numbers (of none: 0)
+unfoldable pub least : List ℕ → ℕ
+least [] = 0
+least (n ∷ ns) = foldl min n ns
+
 -- The winner of a list: its first leads, and the lead passes to each later one that beats the one that has it. So the earliest wins a tie.
 -- (The Rust starts from an infinite distance instead of from the first: the same where distances are finite, as those of accepted points are.)
 unfoldable pub leads : {A : Type 0} → (A → A → Bool) → Option A → A → Option A
@@ -42,6 +52,17 @@ leads beats (some best) x = pick (beats x best) (some x) (some best)
 
 unfoldable pub winner : {A : Type 0} → (A → A → Bool) → List A → Option A
 winner beats xs = foldl (leads beats) none xs
+
+-- Layers are 0 to 15. What has a layer above these is never chosen; the calls refuse it (13).
+unfoldable pub highestLayer : ℕ
+highestLayer = 15
+
+-- Those of a list that have its lowest layer, if that is at most the highest allowed; and the winner among them: how start, order, straight and retrace choose.
+unfoldable pub lowest : {A : Type 0} → (A → ℕ) → List A → List A
+lowest layer xs = let l = least (map layer xs) in pick (leb l highestLayer) (having layer l xs) []
+
+unfoldable pub foremost : {A : Type 0} → (A → ℕ) → (A → A → Bool) → List A → Option A
+foremost layer beats xs = winner beats (lowest layer xs)
 
 -- the lesser and the greater of two floats that are no NaN
 unfoldable pub lesser : Float → Float → Float

@@ -49,7 +49,7 @@ outcome p c path ms = record { plate = p; counts = c; path = points path; marks 
 
 -- (0,0)(25,0)(50,0) | (0,1): plate E, but with cells of size 1. Vertices 0 to 2 are the first contour's, and vertex 3 is the second's; S is 2, n is 2.
 wide : Plate
-wide = plate (points ((0, 0) ∷ (25, 0) ∷ (50, 0) ∷ (0, 1) ∷ [])) (3 ∷ 1 ∷ []) 0 0 Inside
+wide = plate (points ((0, 0) ∷ (25, 0) ∷ (50, 0) ∷ (0, 1) ∷ [])) (3 ∷ 1 ∷ []) (0 ∷ 0 ∷ []) 0 0 Inside
 
 -- the path that the rules give, and its marks: 6 points, 2 cuts, 2 back-steps, 1 jump
 rulesPath : List (ℕ × ℕ)
@@ -60,7 +60,7 @@ rulesMarks = (0, 0) ∷ (1, 0) ∷ (1, 1) ∷ (2, 1) ∷ (2, 0) ∷ (3, 3) ∷ [
 
 -- one point
 single : Plate
-single = plate (points ((0, 0) ∷ [])) (1 ∷ []) 0 0 Inside
+single = plate (points ((0, 0) ∷ [])) (1 ∷ []) (0 ∷ []) 0 0 Inside
 
 -- ---- the table
 

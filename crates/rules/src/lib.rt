@@ -47,7 +47,11 @@ pub enum Refusal {
     WorkShort(u32),
     Full(u32),
     Blank,
+    BadLayer(u32),
 }
+
+// Layers are 0 to this.
+pub const HIGHEST_LAYER: u32 = 15;
 
 // Squared and plain distance.
 pub enum DistanceAnswer {

@@ -11,7 +11,7 @@ use lib.ListN.{length, take}
 use lib.Seq.{take-all}
 use borrow.Author.Tests.{lt-ltb, le-ltb}
 use Rattle.rules.specs.Tools.{pick, sum}
-use Rattle.rules.specs.HandedOver.{Plate, Answer, gives, refuses, refusal, plateLimit, firstOff, refuseIf, checked, orderWork, fitted, over, after, WorkKept}
+use Rattle.rules.specs.HandedOver.{Plate, Answer, gives, refuses, refusal, plateLimit, firstOff, firstBad, refuseIf, counted, layered, onPlate, checked, orderWork, fitted, over, after, WorkKept}
 use Rattle.rules.specs.declared.Refusal.{Refusal}
 use Rattle.plate.specs.Refused.{not-given, checked-refuses, checked-passes}
 
@@ -23,15 +23,17 @@ unfolding refuseIf after pick
 after-if true n k r x y c result slice e h f = rw e
 after-if false n k r x y c result slice e h f = f h
 
-pub after-checked : {A B C : Type 0} (xs : List Float) (ns : List ℕ) (r : Refusal) (a : A) (later : Answer B) (c : ℕ) (result slice : List C) →
-    refusal r ≡ checked xs ns (gives a) → slice ≡ after (checked xs ns later) c result slice
-unfolding checked
-after-checked xs ns r a later c result slice h =
+pub after-checked : {A B C : Type 0} (xs : List Float) (ns ls : List ℕ) (r : Refusal) (a : A) (later : Answer B) (c : ℕ) (result slice : List C) →
+    refusal r ≡ checked xs ns ls (gives a) → slice ≡ after (checked xs ns ls later) c result slice
+unfolding checked counted layered onPlate
+after-checked xs ns ls r a later c result slice h =
     after-if (ltb 4096 (length ns)) 1 0 r _ _ c result slice refl h
     (λ h1. after-if (ltb 65536 (sum ns)) 2 0 r _ _ c result slice refl h1
     (λ h2. after-if (not (eqb (length xs) (2 * sum ns))) 3 0 r _ _ c result slice refl h2
-    (λ h3. after-if (ltb (firstOff plateLimit 0 xs) (length xs)) 4 (firstOff plateLimit 0 xs) r _ _ c result slice refl h3
-    (λ h4. absurd (not-given r a h4)))))
+    (λ h3. after-if (not (eqb (length ls) (length ns))) 13 (length ns) r _ _ c result slice refl h3
+    (λ h4. after-if (ltb (firstBad 0 ls) (length ls)) 13 (firstBad 0 ls) r _ _ c result slice refl h4
+    (λ h5. after-if (ltb (firstOff plateLimit 0 xs) (length xs)) 4 (firstOff plateLimit 0 xs) r _ _ c result slice refl h5
+    (λ h6. absurd (not-given r a h6)))))))
 
 -- a work slice that is not altered
 pub work-same : {A B : Type 0} (a : Answer A) (work : List B) → WorkKept a work work
@@ -42,20 +44,20 @@ work-same (refuses n k) work = λ t. refl
 -- ---- the four ways
 
 abbrev pub outcome : Plate → ℕ → ℕ → ℕ → Answer ℕ
-outcome p w c n = checked (p .points) (p .lengths) (orderWork p w (fitted c n n))
+outcome p w c n = checked (p .points) (p .lengths) (p .layers) (orderWork p w (fitted c n n))
 
 -- `a` is the call's answer, `now` the output slice afterwards, and `work` the work slice before and afterwards
 abbrev pub Met : {B : Type 0} → Answer ℕ → ℕ → List B → List B → Answer ℕ → List B → List ℕ → List ℕ → Type 0
 Met o c result slice a now work worked = (a ≡ o) × (now ≡ after o c result slice) × WorkKept o work worked
 
 module _ {B : Type 0} (p : Plate) (w c n : ℕ) (result slice : List B) (work : List ℕ) where
-  pub met-refused : (r : Refusal) (m : ℕ) → refusal r ≡ checked (p .points) (p .lengths) (gives m) →
+  pub met-refused : (r : Refusal) (m : ℕ) → refusal r ≡ checked (p .points) (p .lengths) (p .layers) (gives m) →
       Met (outcome p w c n) c result slice (refusal r) slice work work
-  met-refused r m h = (checked-refuses (p .points) (p .lengths) r m _ h, after-checked (p .points) (p .lengths) r m _ c result slice h, work-same _ work)
+  met-refused r m h = (checked-refuses (p .points) (p .lengths) (p .layers) r m _ h, after-checked (p .points) (p .lengths) (p .layers) r m _ c result slice h, work-same _ work)
 
-  module _ (m k : ℕ) (sound : checked (p .points) (p .lengths) (gives m) ≡ gives k) where
+  module _ (m k : ℕ) (sound : checked (p .points) (p .lengths) (p .layers) (gives m) ≡ gives k) where
     passed : outcome p w c n ≡ orderWork p w (fitted c n n)
-    passed = checked-passes (p .points) (p .lengths) m k _ sound
+    passed = checked-passes (p .points) (p .lengths) (p .layers) m k _ sound
 
     pub met-short : w < length (p .lengths) → Met (outcome p w c n) c result slice (refuses 5 0) slice work work
     unfolding orderWork refuseIf after pick

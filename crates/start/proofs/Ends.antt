@@ -9,15 +9,16 @@ use native.Mathlib.Numerals.{add-one}
 use native.Mathlib.Omega.{arith}
 use lib.ListN.{length, getD, drop, drop-of-length-le}
 use lib.Seq.{drop-cons}
-use Rattle.rules.specs.Tools.{foldl, leads, winner}
+use Rattle.rules.specs.Tools.{foldl}
 use Rattle.rules.specs.HandedOver.{Plate, Contour, contoursFrom, contours}
-use Rattle.rules.specs.Start.{Oriented, oriented, ends, beats, centre, start}
+use Rattle.rules.specs.Start.{Oriented, oriented, ends, layerOf, beats, centre, start}
 use Rattle.rules.specs.declared.Point.{Point}
+use Rattle.path.specs.Layers.{leadsIn, foremost-is}
 use Rattle.rules.specs.declared.StartPointStrategy.{StartPointStrategy}
 
 -- the lead after the ends of a list of contours
 abbrev pub led : Plate → Point → StartPointStrategy → Option Oriented → List Contour → Option Oriented
-led p q s b cs = foldl (leads (beats s)) b (ends p q cs)
+led p q s b cs = foldl (leadsIn (layerOf p) (beats s)) b (ends p q cs)
 
 pub led-none : (p : Plate) (q : Point) (s : StartPointStrategy) (b : Option Oriented) (j v n : ℕ) → n ≡ 0 → b ≡ led p q s b (contoursFrom j v (n ∷ []))
 unfolding contoursFrom ends
@@ -26,7 +27,7 @@ led-none p q s b j v (suc n) e = absurd (omega arith)
 
 pub led-one : (p : Plate) (q : Point) (s : StartPointStrategy) (b : Option Oriented) (j v n : ℕ) (c : Contour) → (n ≡ 0 → ⊥) →
     c ≡ record { number = j; first = v; last = n - 1 } →
-    leads (beats s) (leads (beats s) b (oriented p q false c)) (oriented p q true c) ≡ led p q s b (contoursFrom j v (n ∷ []))
+    leadsIn (layerOf p) (beats s) (leadsIn (layerOf p) (beats s) b (oriented p q false c)) (oriented p q true c) ≡ led p q s b (contoursFrom j v (n ∷ []))
 unfolding contoursFrom ends
 led-one p q s b j v zero c z e = absurd (z refl)
 led-one p q s b j v (suc n) c z e =
@@ -57,5 +58,5 @@ unfolding contoursFrom ends
 led-end p q s b ns i v h = ap (λ (xs : List ℕ). led p q s b (contoursFrom i v xs)) (drop-of-length-le ns h)
 
 pub led-start : (p : Plate) → start p ≡ led p (centre (p .width) (p .height)) (p .strategy) none (contoursFrom 0 0 (p .lengths))
-unfolding start winner contours
-led-start p = refl
+unfolding start contours
+led-start p = foremost-is (layerOf p) (beats (p .strategy)) _

@@ -1,5 +1,6 @@
 -- The code's contours as the definitions have them. Definitions only.
 use mathlib.Core.Option.{Option, none, some}
+use Prim.Native.Nat.{ℕ, _<_}
 use Rattle.rules.specs.HandedOver as handed
 use Rattle.rules.specs.Start as start
 use Rattle.start.specs.declared.Contour.{Contour}
@@ -16,3 +17,8 @@ orientedOf s = record { contour = contourOf (s .contour); reversed = s .reversed
 unfoldable pub leadOf : Lead → Option start.Oriented
 leadOf (Best s) = some (orientedOf s)
 leadOf Nothing = none
+
+-- the one in the lead has a number below n
+abbrev pub LeadIn : ℕ → Lead → Type 0
+LeadIn n (Best s) = s .contour .number < n
+LeadIn n Nothing = Unit {0}

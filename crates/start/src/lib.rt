@@ -3,16 +3,19 @@ ghost use mathlib.Core.Path.{_≡_};
 ghost use Prim.Native.Nat.{_+_, _*_, _≤_, _<_};
 ghost use lib.ListN.{length};
 ghost use mathlib.Core.List.{[], _∷_};
-ghost use Rattle.rules.specs.Tools.{pick, foldl, leads};
+ghost use mathlib.Core.Option.{some};
+ghost use Rattle.rules.specs.Tools.{pick, foldl};
 ghost use Rattle.rules.specs.HandedOver.{Plate, plate, at, contoursFrom, startAnswer};
 ghost use Rattle.rules.specs.Distances.{distanceSquared};
 ghost use Rattle.rules.specs.Start as Start;
 ghost use Rattle.rules.specs.Calls.{startCall};
 ghost use Rattle.path.specs.Accepted.{Accepted};
-ghost use Rattle.start.specs.Oriented.{orientedOf, leadOf};
+ghost use Rattle.path.specs.Layers.{beatsIn, taking, leadsIn};
+ghost use Rattle.start.specs.Oriented.{orientedOf, leadOf, LeadIn};
 use plate::Checked;
 use plate::check;
 use point::distance_squared;
+use rules::HIGHEST_LAYER;
 use rules::Point;
 use rules::Refusal;
 use rules::StartAnswer;
@@ -96,14 +99,50 @@ fn beats(strategy: StartPointStrategy, new: Oriented, best: Oriented) -> bool
     }
 }
 
+// Whether one takes the lead: a lower layer does, a higher one does not.
+fn takes_lead(layers: &[u32], strategy: StartPointStrategy, new: Oriented, best: Oriented) -> bool
+    requires { ⌜ (new .contour .number < length (now layers)) × (best .contour .number < length (now layers)) ⌝ }
+    ensures { λ r. ⌜
+        ((p : Plate) → p .layers ≡ now (layers .entry) →
+        r ≡ beatsIn (Start.layerOf p) (Start.beats strategy) (orientedOf new) (orientedOf best)) ⌝ }
+{
+    let i = new.contour.number as usize;
+    let j = best.contour.number as usize;
+    if layers[i] < layers[j] {
+        return true;
+    }
+    if layers[j] < layers[i] {
+        return false;
+    }
+    beats(strategy, new, best)
+}
+
+// The lead where there was none: a contour with a layer above the highest is never chosen.
+fn first_lead(layers: &[u32], new: Oriented) -> Lead
+    requires { ⌜ new .contour .number < length (now layers) ⌝ }
+    ensures { λ r. ⌜
+        (LeadIn (length (now (layers .entry))) r)
+        × ((p : Plate) → p .layers ≡ now (layers .entry) → leadOf r ≡ taking (Start.layerOf p) (some (orientedOf new))) ⌝ }
+{
+    let k = new.contour.number as usize;
+    if HIGHEST_LAYER < layers[k] {
+        return Lead::Nothing;
+    }
+    Lead::Best(new)
+}
+
 // The lead after one more.
-fn lead_after(strategy: StartPointStrategy, lead: Lead, new: Oriented) -> Lead
-    ensures { λ r. ⌜ leadOf r ≡ leads (Start.beats strategy) (leadOf lead) (orientedOf new) ⌝ }
+fn lead_after(layers: &[u32], strategy: StartPointStrategy, lead: Lead, new: Oriented) -> Lead
+    requires { ⌜ (new .contour .number < length (now layers)) × LeadIn (length (now layers)) lead ⌝ }
+    ensures { λ r. ⌜
+        (LeadIn (length (now (layers .entry))) r)
+        × ((p : Plate) → p .layers ≡ now (layers .entry) →
+        leadOf r ≡ leadsIn (Start.layerOf p) (Start.beats strategy) (leadOf lead) (orientedOf new)) ⌝ }
 {
     let Lead::Best(best) = lead else {
-        return Lead::Best(new);
+        return first_lead(layers, new);
     };
-    if beats(strategy, new, best) {
+    if takes_lead(layers, strategy, new, best) {
         return Lead::Best(new);
     }
     Lead::Best(best)
@@ -112,6 +151,7 @@ fn lead_after(strategy: StartPointStrategy, lead: Lead, new: Oriented) -> Lead
 // The lead after a contour of a length: its first point before its last. An empty one is skipped.
 fn try_contour(
     points: &[f64],
+    layers: &[u32],
     q: Point,
     strategy: StartPointStrategy,
     lead: Lead,
@@ -119,10 +159,11 @@ fn try_contour(
     first: Vertex,
     size: u32,
 ) -> Lead
-    requires { ⌜ (first .0 + size ≤ 65536) × (2 * (first .0 + size) ≤ length (now points)) ⌝ }
+    requires { ⌜ (first .0 + size ≤ 65536) × (2 * (first .0 + size) ≤ length (now points)) × (number < length (now layers)) × LeadIn (length (now layers)) lead ⌝ }
     ensures { λ r. ⌜
-        ((p : Plate) → p .points ≡ now (points .entry) →
-        leadOf r ≡ foldl (leads (Start.beats strategy)) (leadOf lead) (Start.ends p q (contoursFrom number (first .0) (size ∷ [])))) ⌝ }
+        (LeadIn (length (now (layers .entry))) r)
+        × ((p : Plate) → p .points ≡ now (points .entry) → p .layers ≡ now (layers .entry) →
+        leadOf r ≡ foldl (leadsIn (Start.layerOf p) (Start.beats strategy)) (leadOf lead) (Start.ends p q (contoursFrom number (first .0) (size ∷ [])))) ⌝ }
 {
     if size == 0 {
         return lead;
@@ -134,19 +175,21 @@ fn try_contour(
     };
     let forward = orient(points, q, false, c);
     let reverse = orient(points, q, true, c);
-    lead_after(strategy, lead_after(strategy, lead, forward), reverse)
+    let led = lead_after(layers, strategy, lead, forward);
+    lead_after(layers, strategy, led, reverse)
 }
 
 // The end that leads the path, or nothing where no contour has a point.
 pub fn choose_start_contour(
     points: &[f64],
     lengths: &[u32],
+    layers: &[u32],
     width: u32,
     height: u32,
     strategy: StartPointStrategy,
 ) -> Lead
-    requires { ⌜ Accepted (now points) (now lengths) ⌝ }
-    ensures { λ r. ⌜ leadOf r ≡ Start.start (plate (now (points .entry)) (now (lengths .entry)) width height strategy) ⌝ }
+    requires { ⌜ (Accepted (now points) (now lengths)) × (length (now layers) ≡ length (now lengths)) ⌝ }
+    ensures { λ r. ⌜ leadOf r ≡ Start.start (plate (now (points .entry)) (now (lengths .entry)) (now (layers .entry)) width height strategy) ⌝ }
 {
     let center = image_center(width, height);
     let mut lead = Lead::Nothing;
@@ -156,6 +199,7 @@ pub fn choose_start_contour(
         let size = lengths[i];
         lead = try_contour(
             points,
+            layers,
             center,
             strategy,
             lead,
@@ -173,17 +217,18 @@ pub fn choose_start_contour(
 pub fn start_call(
     points: &[f64],
     lengths: &[u32],
+    layers: &[u32],
     width: u32,
     height: u32,
     strategy: StartPointStrategy,
 ) -> StartAnswer
-    ensures { λ r. ⌜ startAnswer r ≡ startCall (plate (now (points .entry)) (now (lengths .entry)) width height strategy) ⌝ }
+    ensures { λ r. ⌜ startAnswer r ≡ startCall (plate (now (points .entry)) (now (lengths .entry)) (now (layers .entry)) width height strategy) ⌝ }
 {
-    let checked = check(points, lengths);
+    let checked = check(points, lengths, layers);
     if let Checked::Unsound(r) = checked {
         return StartAnswer::NoStart(r);
     }
-    let lead = choose_start_contour(points, lengths, width, height, strategy);
+    let lead = choose_start_contour(points, lengths, layers, width, height, strategy);
     let Lead::Best(s) = lead else {
         return StartAnswer::NoStart(Refusal::Blank);
     };

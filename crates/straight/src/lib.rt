@@ -80,6 +80,7 @@ fn write_contours(points: &[f64], lengths: &[u32], words: &[u32], path: &mut [f6
 pub fn join_straight_line(
     points: &[f64],
     lengths: &[u32],
+    layers: &[u32],
     width: u32,
     height: u32,
     strategy: StartPointStrategy,
@@ -87,19 +88,20 @@ pub fn join_straight_line(
     room: usize,
     work: &mut [u32],
 )
-    requires { ⌜ Accepted (now points) (now lengths) × (length (now lengths) ≤ length (now work)) × (2 * room ≤ length (now path)) ⌝ }
+    requires { ⌜ Accepted (now points) (now lengths) × (length (now lengths) ≤ length (now work)) × (2 * room ≤ length (now path)) × (length (now layers) ≡ length (now lengths)) ⌝ }
     ensures { λ _. ⌜
-        (let p = plate (now (points .entry)) (now (lengths .entry)) width height strategy in
+        (let p = plate (now (points .entry)) (now (lengths .entry)) (now (layers .entry)) width height strategy in
         now (path .exit) ≡ over (take (2 * room) (coordinates (now (points .entry)) (straight (order p)))) (now (path .entry))) ⌝ }
 {
-    let count = optimize_path_order(points, lengths, width, height, strategy, work);
+    let count = optimize_path_order(points, lengths, layers, width, height, strategy, work);
     write_contours(points, lengths, &work[..count], path, room);
 }
 
-// The straight call.
+// The straight call. Every point of the plate is on the path once.
 pub fn straight_call(
     points: &[f64],
     lengths: &[u32],
+    layers: &[u32],
     width: u32,
     height: u32,
     strategy: StartPointStrategy,
@@ -107,10 +109,10 @@ pub fn straight_call(
     work: &mut [u32],
 ) -> StraightAnswer
     ensures { λ r. ⌜
-        (let o = straightCall (plate (now (points .entry)) (now (lengths .entry)) width height strategy) (now (path .entry)) (length (now (work .entry))) in
+        (let o = straightCall (plate (now (points .entry)) (now (lengths .entry)) (now (layers .entry)) width height strategy) (now (path .entry)) (length (now (work .entry))) in
         (straightAnswer r ≡ o .answer) × (now (path .exit) ≡ o .path) × WorkKept (o .answer) (now (work .entry)) (now (work .exit))) ⌝ }
 {
-    let checked = check(points, lengths);
+    let checked = check(points, lengths, layers);
     if let Checked::Unsound(r) = checked {
         return StraightAnswer::NoStraight(r);
     }
@@ -118,8 +120,17 @@ pub fn straight_call(
         return StraightAnswer::NoStraight(Refusal::WorkShort(0));
     }
     let room = least(path.len() / 2, 1048576);
-    join_straight_line(points, lengths, width, height, strategy, path, room, work);
-    // Every point of the plate is on the path once.
+    join_straight_line(
+        points,
+        lengths,
+        layers,
+        width,
+        height,
+        strategy,
+        path,
+        room,
+        work,
+    );
     let count = points.len() / 2;
     if room < count {
         return StraightAnswer::NoStraight(Refusal::Full(room as u32));

@@ -3,7 +3,7 @@ ghost use mathlib.Core.Path.{_≡_};
 ghost use Prim.Native.Nat.{ℕ, _*_, _≤_};
 ghost use lib.ListN.{length, take};
 ghost use Rattle.rules.specs.HandedOver.{plate, refuses, refusal, WorkKept};
-ghost use Rattle.rules.specs.PathStatement.{contourCount, Divides};
+ghost use Rattle.rules.specs.PathStatement.{contourCount, Divides, NeverFall};
 ghost use Rattle.rules.specs.Calls.{distanceCall, startCall, orderCall, straightCall, retraceCall};
 ghost use Rattle.twillharbor.specs.Results.{pointOf, strategyOf, distanceResult, startResult, orderResult, straightResult, retraceResult, countsOf};
 use order::order_call;
@@ -49,6 +49,7 @@ fn numbers_of(r: Refusal) -> RefusalNumbers
             number: 7,
             place: 0,
         },
+        Refusal::BadLayer(place) => RefusalNumbers { number: 13, place },
     }
 }
 
@@ -105,14 +106,15 @@ pub struct StartResult {
 pub extern "C" fn twillharbor_start(
     points: &[f64],
     lengths: &[u32],
+    layers: &[u32],
     width: u32,
     height: u32,
     inside: bool,
 ) -> StartResult
-    ensures { λ r. ⌜ r ≡ startResult (startCall (plate (now (points .entry)) (now (lengths .entry)) width height (strategyOf inside))) ⌝ }
+    ensures { λ r. ⌜ r ≡ startResult (startCall (plate (now (points .entry)) (now (lengths .entry)) (now (layers .entry)) width height (strategyOf inside))) ⌝ }
 {
     let strategy = strategy_of(inside);
-    let answer = start_call(points, lengths, width, height, strategy);
+    let answer = start_call(points, lengths, layers, width, height, strategy);
     match answer {
         StartAnswer::Start(contour, reversed) => StartResult {
             number: 0,
@@ -143,6 +145,7 @@ pub struct OrderResult {
 pub extern "C" fn twillharbor_order(
     points: &[f64],
     lengths: &[u32],
+    layers: &[u32],
     width: u32,
     height: u32,
     inside: bool,
@@ -150,12 +153,21 @@ pub extern "C" fn twillharbor_order(
     work: &mut [u32],
 ) -> OrderResult
     ensures { λ r. ⌜
-        (let p = plate (now (points .entry)) (now (lengths .entry)) width height (strategyOf inside) in
+        (let p = plate (now (points .entry)) (now (lengths .entry)) (now (layers .entry)) width height (strategyOf inside) in
         let o = orderCall p (now (order .entry)) (length (now (work .entry))) in
         (r ≡ orderResult (o .answer)) × (now (order .exit) ≡ o .order) × WorkKept (o .answer) (now (work .entry)) (now (work .exit))) ⌝ }
 {
     let strategy = strategy_of(inside);
-    let answer = order_call(points, lengths, width, height, strategy, order, work);
+    let answer = order_call(
+        points,
+        lengths,
+        layers,
+        width,
+        height,
+        strategy,
+        order,
+        work,
+    );
     match answer {
         OrderAnswer::Entries(entries) => OrderResult {
             number: 0,
@@ -184,6 +196,7 @@ pub struct StraightResult {
 pub extern "C" fn twillharbor_straight(
     points: &[f64],
     lengths: &[u32],
+    layers: &[u32],
     width: u32,
     height: u32,
     inside: bool,
@@ -191,12 +204,12 @@ pub extern "C" fn twillharbor_straight(
     work: &mut [u32],
 ) -> StraightResult
     ensures { λ r. ⌜
-        (let p = plate (now (points .entry)) (now (lengths .entry)) width height (strategyOf inside) in
+        (let p = plate (now (points .entry)) (now (lengths .entry)) (now (layers .entry)) width height (strategyOf inside) in
         let o = straightCall p (now (path .entry)) (length (now (work .entry))) in
         (r ≡ straightResult (o .answer)) × (now (path .exit) ≡ o .path) × WorkKept (o .answer) (now (work .entry)) (now (work .exit))) ⌝ }
 {
     let strategy = strategy_of(inside);
-    let answer = straight_call(points, lengths, width, height, strategy, path, work);
+    let answer = straight_call(points, lengths, layers, width, height, strategy, path, work);
     match answer {
         StraightAnswer::Points(count) => StraightResult {
             number: 0,
@@ -229,6 +242,7 @@ pub struct RetraceResult {
 pub extern "C" fn twillharbor_retrace(
     points: &[f64],
     lengths: &[u32],
+    layers: &[u32],
     width: u32,
     height: u32,
     inside: bool,
@@ -238,17 +252,19 @@ pub extern "C" fn twillharbor_retrace(
     distances: &mut [f64],
 ) -> RetraceResult
     ensures { λ r. ⌜
-        (let p = plate (now (points .entry)) (now (lengths .entry)) width height (strategyOf inside) in
+        (let p = plate (now (points .entry)) (now (lengths .entry)) (now (layers .entry)) width height (strategyOf inside) in
         let o = retraceCall p (now (path .entry)) (now (marks .entry)) (length (now (work .entry))) (length (now (distances .entry))) in
         (r ≡ retraceResult (o .answer)) × (now (path .exit) ≡ o .path) × (now (marks .exit) ≡ o .marks)
         × WorkKept (o .answer) (now (work .entry)) (now (work .exit)) × WorkKept (o .answer) (now (distances .entry)) (now (distances .exit))
-        × (r .number ≡ 0 → 1 ≤ contourCount p →
-        Divides p (countsOf r) (take (2 * r .points) (now (path .exit))) (take (2 * r .points) (now (marks .exit))))) ⌝ }
+        × (r .number ≡ 0 →
+        (1 ≤ contourCount p → Divides p (countsOf r) (take (2 * r .points) (now (path .exit))) (take (2 * r .points) (now (marks .exit))))
+        × NeverFall p (r .points) (take (2 * r .points) (now (marks .exit))))) ⌝ }
 {
     let strategy = strategy_of(inside);
     let answer = retrace_call(
         points,
         lengths,
+        layers,
         width,
         height,
         strategy,

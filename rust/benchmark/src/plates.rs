@@ -1,5 +1,5 @@
 //! Order and straight against the reference's `optimize_path_order` and `join_straight_line`,
-//! at 4,000 contours of 16 points.
+//! at 4,000 contours of 16 points, all of one layer.
 //!
 //! Each side is given the plate in its own form, made before the clock starts: the library
 //! slices that are lent to it, the reference polylines. The least of several rounds counts.
@@ -12,7 +12,7 @@ use harness::random::Random;
 use mujou_reference::join::door::join_straight_line;
 use mujou_reference::optimize::optimize_path_order;
 use mujou_reference::types::{self, Dimensions, Polyline};
-use twillharbor::{Size, StartPointStrategy, order_into, straight_into};
+use twillharbor::{Plate, Size, StartPointStrategy};
 
 const CONTOURS: usize = 4_000;
 const POINTS: usize = 16;
@@ -41,23 +41,19 @@ fn compare(points: &[f64], lengths: &[u32]) {
     let mut order = vec![0; 2 * lengths.len()];
     let mut path = vec![0.0; points.len()];
     let mut work = vec![0; lengths.len()];
+    let layers = vec![0; lengths.len()];
+    let plate = Plate::with_layers(points, lengths, &layers);
 
     let times = fastest(
         ROUNDS,
-        || {
-            let (points, lengths) = black_box((points, lengths));
-            order_into(points, lengths, size, strategy, &mut order, &mut work)
-        },
+        || black_box(plate).order_into(size, strategy, &mut order, &mut work),
         || optimize_path_order(black_box(&contours), inside, dims),
     );
     print("order", times);
 
     let times = fastest(
         ROUNDS,
-        || {
-            let (points, lengths) = black_box((points, lengths));
-            straight_into(points, lengths, size, strategy, &mut path, &mut work)
-        },
+        || black_box(plate).straight_into(size, strategy, &mut path, &mut work),
         || join_straight_line(black_box(&contours), inside, dims),
     );
     print("straight", times);
@@ -86,7 +82,7 @@ fn time<T>(call: impl FnOnce() -> T) -> Duration {
     took
 }
 
-pub fn same(path: &[f64], reference: &Polyline) -> bool {
+fn same(path: &[f64], reference: &Polyline) -> bool {
     path.iter().copied().eq(reference.points().iter().flat_map(|p| [p.x, p.y]))
 }
 

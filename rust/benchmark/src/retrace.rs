@@ -1,17 +1,18 @@
 //! Retrace against the reference's `join_retrace`, at the two plates of document 02's ticket 10
-//! and at scaled copies of them, whose coordinates are no whole numbers.
+//! and at scaled copies of them, whose coordinates are no whole numbers; and against that of the
+//! reference with layers, at the two plates in sixteen layers.
 //!
 //! Each side is given the plate in its own form, made before the clock starts: the library
 //! slices that are lent to it, long enough for the path, the reference polylines.
 
 use std::hint::black_box;
 
-use harness::plates::{polylines, rows};
-use mujou_reference::join::door::join_retrace;
-use mujou_reference::types::{self, Dimensions};
-use twillharbor::{Size, StartPointStrategy, retrace_into, retrace_work};
+use harness::plates::{falling_layers, polylines, rows};
+use mujou_reference::{join, types};
+use mujou_reference_layers::{join as layered_join, types as layered_types};
+use twillharbor::{Plate, Size, StartPointStrategy, retrace_work};
 
-use crate::plates::{fastest, print, same};
+use crate::plates::{fastest, print};
 
 const ROUNDS: usize = 9;
 
@@ -22,15 +23,53 @@ pub fn report() {
         println!("{contours} contours of {points} points, {per_row} to a row");
         compare("retrace", &in_rows, &lengths);
         compare("retrace, scaled", &scaled, &lengths);
+        compare_in_layers("in sixteen layers", &in_rows, &lengths, &falling_layers(contours));
     }
 }
 
+/// All contours in layer 0, against mujou's own function.
 fn compare(name: &str, points: &[f64], lengths: &[u32]) {
     let contours = polylines(points, lengths);
+    let dims = types::Dimensions { width: 0, height: 0 };
+    let inside = types::StartPointStrategy::Inside;
+    let join = || join::door::join_retrace(black_box(&contours), inside, dims);
+    let reference = join();
+    let reference: Vec<f64> = reference.points().iter().flat_map(|p| [p.x, p.y]).collect();
+    time(name, points, lengths, &vec![0; lengths.len()], &reference, join);
+}
+
+fn compare_in_layers(name: &str, points: &[f64], lengths: &[u32], layers: &[u32]) {
+    let contours = in_layers(points, lengths, layers);
+    let dims = layered_types::Dimensions { width: 0, height: 0 };
+    let inside = layered_types::StartPointStrategy::Inside;
+    let join = || layered_join::door::join_retrace(black_box(&contours), inside, dims);
+    let reference = join();
+    let reference: Vec<f64> = reference.points().iter().flat_map(|p| [p.x, p.y]).collect();
+    time(name, points, lengths, layers, &reference, join);
+}
+
+/// The contours as the reference with layers takes them.
+fn in_layers(points: &[f64], lengths: &[u32], layers: &[u32]) -> Vec<layered_types::Polyline> {
+    let contours = polylines(points, lengths).into_iter().zip(layers);
+    let contours = contours.map(|(contour, &layer)| {
+        let points = contour.points().iter().map(|p| layered_types::Point::new(p.x, p.y));
+        layered_types::Polyline::new(points.collect()).in_layer(layer)
+    });
+    contours.collect()
+}
+
+/// The call and the reference's function, whose path has these coordinates.
+fn time<R>(
+    name: &str,
+    points: &[f64],
+    lengths: &[u32],
+    layers: &[u32],
+    reference: &[f64],
+    join: impl Fn() -> R,
+) {
     let (size, strategy) = (Size { width: 0, height: 0 }, StartPointStrategy::Inside);
-    let (dims, inside) = (Dimensions { width: 0, height: 0 }, types::StartPointStrategy::Inside);
-    let reference = join_retrace(&contours, inside, dims);
-    let capacity = reference.len();
+    let plate = Plate::with_layers(points, lengths, layers);
+    let capacity = reference.len() / 2;
     let mut path = vec![0.0; 2 * capacity];
     let mut marks = vec![0; 2 * capacity];
     let mut work = vec![0; retrace_work(capacity, points.len() / 2, lengths.len())];
@@ -39,10 +78,7 @@ fn compare(name: &str, points: &[f64], lengths: &[u32]) {
     let times = fastest(
         ROUNDS,
         || {
-            let (points, lengths) = black_box((points, lengths));
-            retrace_into(
-                points,
-                lengths,
+            black_box(plate).retrace_into(
                 size,
                 strategy,
                 &mut path,
@@ -51,8 +87,8 @@ fn compare(name: &str, points: &[f64], lengths: &[u32]) {
                 &mut distances,
             )
         },
-        || join_retrace(black_box(&contours), inside, dims),
+        join,
     );
     print(name, times);
-    assert!(same(&path, &reference), "the paths differ");
+    assert!(path == reference, "the paths differ");
 }

@@ -58,7 +58,7 @@ fn compare(plate: &Plate, emitted: Emitted, ours: Option<Vec<(f64, u32)>>) -> Re
     let Plate { points, lengths, .. } = plate;
     let Emitted { number, before, count } = emitted;
     let size = lengths.get(number as usize).copied().unwrap_or(0);
-    let fit = rule::checked(points, lengths).is_ok()
+    let fit = rule::counted(points, lengths).and_then(|()| rule::on_plate(points)).is_ok()
         && size > 0
         && before <= count
         && count as usize <= points.len() / 2;

@@ -1,11 +1,12 @@
-//! A check of a path with marks, written from document 01's text alone: it knows neither how
+//! A check of a path with marks, written from the documents' text alone: it knows neither how
 //! a path is made nor what else is compared.
 //!
 //! The marks divide the pairs of neighbouring path points into cuts, back-steps and jumps.
 //! Each segment of each contour is cut exactly once; each back-step reverses an earlier pair;
 //! each jump enters a contour not entered before, and leaves a point than which no earlier
-//! path point in the nine cells around the landing is nearer. All coordinates are compared by
-//! their bits.
+//! path point in the nine cells around the landing is nearer. Along the path the layers of the
+//! contours that are entered and of those whose segments are cut never fall. All coordinates are
+//! compared by their bits.
 
 use std::collections::HashMap;
 use std::fmt;
@@ -15,6 +16,7 @@ use std::fmt;
 pub struct Claim<'a> {
     pub points: &'a [f64],
     pub lengths: &'a [u32],
+    pub layers: &'a [u32],
     pub path: &'a [[f64; 2]],
     pub marks: &'a [[u32; 2]],
     pub counts: Counts,
@@ -40,10 +42,12 @@ pub enum Rule {
     LandingHasItsBits,
     JumpEntersAnew,
     JumpLeavesTheNearest,
+    JumpDoesNotFall,
     CutIsASegment,
     CutComesOnce,
     CutLeavesAnEnd,
     CutHasItsBits,
+    CutDoesNotFall,
     BackStepIsEarlier,
     BackStepLeavesItsEnd,
     BackStepHasItsBits,
@@ -66,10 +70,16 @@ impl Rule {
             Self::JumpLeavesTheNearest => {
                 "no earlier path point in the nine cells is nearer than the one that a jump leaves"
             }
+            Self::JumpDoesNotFall => {
+                "a jump enters no contour of a lower layer than any entered or cut before"
+            }
             Self::CutIsASegment => "a cut names a segment of a contour",
             Self::CutComesOnce => "a segment is cut once",
             Self::CutLeavesAnEnd => "a cut leaves one end of its segment",
             Self::CutHasItsBits => "a cut has the coordinates of its segment's other end",
+            Self::CutDoesNotFall => {
+                "a cut is of no lower layer than any contour entered or cut before"
+            }
             Self::BackStepIsEarlier => "a back-step names an earlier pair",
             Self::BackStepLeavesItsEnd => "a back-step leaves the end of its pair",
             Self::BackStepHasItsBits => "a back-step has the coordinates of its pair's beginning",
@@ -124,6 +134,9 @@ struct Walk<'a> {
     vertices: &'a [[f64; 2]],
     /// Of each vertex: the number of its contour.
     contour: Vec<usize>,
+    layers: &'a [u32],
+    /// The highest layer so far.
+    layer: u32,
     entered: Vec<bool>,
     /// By the lower vertex.
     cut: Vec<bool>,
@@ -141,6 +154,8 @@ impl<'a> Walk<'a> {
             marks: claim.marks,
             vertices,
             contour: numbers.flat_map(|(c, &n)| std::iter::repeat_n(c, n as usize)).collect(),
+            layers: claim.layers,
+            layer: 0,
             entered: vec![false; claim.lengths.len()],
             cut: vec![false; vertices.len()],
             vertex: Vec::with_capacity(claim.path.len()),
@@ -172,7 +187,16 @@ impl<'a> Walk<'a> {
         holds(vertex < self.vertices.len(), Rule::LandingIsAVertex)?;
         holds(same(self.path[place], self.vertices[vertex]), Rule::LandingHasItsBits)?;
         self.entered[self.contour[vertex]] = true;
+        self.rise(vertex, Rule::JumpDoesNotFall)?;
         Ok(vertex)
+    }
+
+    /// Something of the vertex's contour is drawn.
+    fn rise(&mut self, vertex: usize, rule: Rule) -> Result<(), Rule> {
+        let layer = self.layers[self.contour[vertex]];
+        holds(layer >= self.layer, rule)?;
+        self.layer = layer;
+        Ok(())
     }
 
     fn jump(&mut self, place: usize, vertex: usize) -> Result<usize, Rule> {
@@ -196,6 +220,7 @@ impl<'a> Walk<'a> {
         holds(before == segment || before == segment + 1, Rule::CutLeavesAnEnd)?;
         holds(same(self.path[place - 1], self.vertices[before]), Rule::CutLeavesAnEnd)?;
         holds(same(self.path[place], self.vertices[vertex]), Rule::CutHasItsBits)?;
+        self.rise(vertex, Rule::CutDoesNotFall)?;
         Ok(vertex)
     }
 
@@ -277,6 +302,7 @@ mod tests {
     struct Drawn {
         points: Vec<f64>,
         lengths: Vec<u32>,
+        layers: Vec<u32>,
         path: Vec<[f64; 2]>,
         marks: Vec<[u32; 2]>,
         counts: Counts,
@@ -287,6 +313,7 @@ mod tests {
             check(&Claim {
                 points: &self.points,
                 lengths: &self.lengths,
+                layers: &self.layers,
                 path: &self.path,
                 marks: &self.marks,
                 counts: self.counts,
@@ -312,6 +339,7 @@ mod tests {
         Drawn {
             points: [a, b, c, d].concat(),
             lengths: vec![3, 1],
+            layers: vec![0, 0],
             path: vec![a, b, c, b, a, d],
             marks: vec![[0, 0], [1, 0], [1, 1], [2, 1], [2, 0], [3, 3]],
             counts: counts(6, 2, 2, 1),
@@ -324,6 +352,7 @@ mod tests {
         Drawn {
             points: [a, b, c, d].concat(),
             lengths: vec![1, 0, 3],
+            layers: vec![2, 0, 3],
             path: vec![a, c, d, c, b],
             marks: vec![[0, 0], [3, 2], [1, 2], [2, 1], [1, 1]],
             counts: counts(5, 2, 1, 1),
@@ -338,6 +367,7 @@ mod tests {
         let g = Drawn {
             points: [a, b, c].concat(),
             lengths: vec![1, 1, 1],
+            layers: vec![15, 15, 15],
             path: vec![a, b, a, c],
             marks: vec![[0, 0], [3, 1], [2, 0], [3, 2]],
             counts: counts(4, 0, 1, 2),
@@ -346,6 +376,7 @@ mod tests {
         let a = Drawn {
             points: vec![],
             lengths: vec![0, 0],
+            layers: vec![1, 0],
             path: vec![],
             marks: vec![],
             counts: counts(0, 0, 0, 0),
@@ -409,11 +440,44 @@ mod tests {
         let wider = |e: &mut Drawn| {
             e.points.extend([0.0, 100.0]);
             e.lengths.push(1);
+            e.layers.push(0);
             e.path.push([0.0, 100.0]);
             e.marks.push([3, 4]);
             e.counts = counts(5, 2, 0, 2);
         };
         assert_eq!(straight.damaged(wider), (Rule::JumpLeavesTheNearest, 3));
+    }
+
+    #[test]
+    fn a_jump_does_not_fall() {
+        // To a lower layer than the start's, and than that of a contour entered later.
+        assert_eq!(e().damaged(|e| e.layers = vec![1, 0]), (Rule::JumpDoesNotFall, 5));
+        assert_eq!(f().damaged(|f| f.layers[2] = 1), (Rule::JumpDoesNotFall, 1));
+        let again = |e: &mut Drawn| {
+            e.points.extend([0.0, 2.0]);
+            e.lengths.push(1);
+            e.layers = vec![0, 15, 14];
+            e.path.push([0.0, 2.0]);
+            e.marks.push([3, 4]);
+            e.counts = counts(7, 2, 2, 2);
+        };
+        assert_eq!(e().damaged(again), (Rule::JumpDoesNotFall, 6));
+    }
+
+    #[test]
+    fn a_cut_does_not_fall() {
+        // (0,0)(4,0)(8,0) | (4,1): the other contour is entered between the two cuts of the first.
+        let [a, b, c, d] = [[0.0, 0.0], [4.0, 0.0], [8.0, 0.0], [4.0, 1.0]];
+        let between = Drawn {
+            points: [a, b, c, d].concat(),
+            lengths: vec![3, 1],
+            layers: vec![7, 7],
+            path: vec![a, b, d, b, c],
+            marks: vec![[0, 0], [1, 0], [3, 3], [2, 1], [1, 1]],
+            counts: counts(5, 2, 1, 1),
+        };
+        assert_eq!(between.check(), Ok(()));
+        assert_eq!(between.damaged(|p| p.layers[1] = 8), (Rule::CutDoesNotFall, 4));
     }
 
     #[test]
@@ -510,6 +574,7 @@ mod tests {
             e.path.clear();
             e.marks.clear();
             e.lengths = vec![1];
+            e.layers = vec![0];
             e.points.truncate(2);
             e.counts = counts(0, 0, 0, 0);
         };

@@ -16,6 +16,7 @@ pub struct Handed<'a, Due, Tally> {
     pub tally: &'a Tally,
     pub points: Lent<f64>,
     pub lengths: Lent<u32>,
+    pub layers: Lent<u32>,
     pub due: Result<Due, Refused>,
 }
 
@@ -31,12 +32,25 @@ impl<'a, Due, Tally> Handed<'a, Due, Tally> {
         let due = due.map_err(|error| described(plate, strategy, &error))?;
         let points = Lent::holding(&plate.points, random);
         let lengths = Lent::holding(&plate.lengths, random);
-        Ok(Self { plate, strategy, tally, points, lengths, due })
+        let layers = Lent::holding(&plate.layers, random);
+        Ok(Self { plate, strategy, tally, points, lengths, layers, due })
     }
 
     pub fn inputs_kept(&self, call: &str) -> Result<(), String> {
         self.holds("points", call, self.points.altered())?;
-        self.holds("lengths", call, self.lengths.altered())
+        self.holds("lengths", call, self.lengths.altered())?;
+        self.holds("layers", call, self.layers.altered())
+    }
+
+    /// The plate as the safe interface takes it: with its layers, and without where all are 0.
+    pub fn plates(&self) -> Vec<twillharbor::Plate<'_>> {
+        let (points, lengths, layers) =
+            (self.points.slice(), self.lengths.slice(), self.layers.slice());
+        let mut plates = vec![twillharbor::Plate::with_layers(points, lengths, layers)];
+        if layers.len() == lengths.len() && layers.iter().all(|&layer| layer == 0) {
+            plates.push(twillharbor::Plate::new(points, lengths));
+        }
+        plates
     }
 
     pub fn holds(&self, slice: &str, call: &str, wrong: Option<Difference>) -> Result<(), String> {
@@ -67,13 +81,15 @@ impl<'a, Due, Tally> Handed<'a, Due, Tally> {
 
 /// The text, with the plate, the whole of it where that is a few lines.
 fn described(plate: &Plate, strategy: StartPointStrategy, text: &str) -> String {
-    let Plate { points, lengths, size } = plate;
+    let Plate { points, lengths, layers, size } = plate;
     let mut text = format!("{text}\n  {} by {}, {strategy:?}", size.width, size.height);
     if points.len() <= 256 && lengths.len() <= 64 {
         let bits: Vec<String> = points.iter().map(|c| format!("{:016x}", c.to_bits())).collect();
-        text += &format!("\n  lengths {lengths:?}\n  points {}", bits.join(" "));
+        text +=
+            &format!("\n  lengths {lengths:?}\n  layers {layers:?}\n  points {}", bits.join(" "));
     } else {
-        text += &format!("\n  {} lengths, {} coordinates", lengths.len(), points.len());
+        let [lengths, layers] = [lengths.len(), layers.len()];
+        text += &format!("\n  {lengths} lengths, {layers} layers, {} coordinates", points.len());
     }
     text
 }

@@ -1,5 +1,5 @@
 //! The start, order and straight calls against the reference's `choose_start_contour`,
-//! `optimize_path_order` and `join_straight_line`.
+//! `optimize_path_order` and `join_straight_line`, with layers.
 //!
 //! Every call is lent slices between margins of random bits, and all bits are compared
 //! afterwards: of the answer, of inputs and outputs, and of the work slice after every
@@ -12,10 +12,11 @@ use twillharbor::StartPointStrategy::{self, Inside, Outside};
 use twillharbor::{Refusal, c};
 
 use crate::handed::Handed;
+use crate::layers::{Met, in_seeded_layers};
 use crate::lent::{Lent, Number};
 use crate::plates::{KINDS, Kind, Plate, damaged_somehow, plate};
 use crate::reference::{Results, results};
-use crate::rule::{self, Refused};
+use crate::rule::{self, NUMBERS, Refused};
 use crate::run::{self, Plan};
 
 /// How many damaged copies of each plate are handed over.
@@ -31,9 +32,10 @@ enum Call {
 /// How many calls were made, by the number that is due.
 #[derive(Debug, Default)]
 struct Tally {
-    start: [AtomicU64; 8],
-    order: [AtomicU64; 8],
-    straight: [AtomicU64; 8],
+    start: [AtomicU64; NUMBERS.len()],
+    order: [AtomicU64; NUMBERS.len()],
+    straight: [AtomicU64; NUMBERS.len()],
+    met: Met,
 }
 
 impl Tally {
@@ -43,15 +45,15 @@ impl Tally {
             Call::Order => &self.order,
             Call::Straight => &self.straight,
         };
-        numbers[number as usize].fetch_add(1, Ordering::Relaxed);
+        numbers[rule::place_of(number)].fetch_add(1, Ordering::Relaxed);
     }
 
     fn print(&self) {
-        let row = |name: &str, cells: [String; 8]| {
+        let row = |name: &str, cells: [String; NUMBERS.len()]| {
             println!("{name:>10}{}", cells.map(|cell| format!("{cell:>11}")).concat());
         };
         println!("calls, by the number that is due:");
-        row("", [0, 1, 2, 3, 4, 5, 6, 7].map(|number| number.to_string()));
+        row("", NUMBERS.map(|number| number.to_string()));
         for (name, numbers) in
             [("start", &self.start), ("order", &self.order), ("straight", &self.straight)]
         {
@@ -71,7 +73,7 @@ pub fn run(plan: Plan) -> bool {
             .map_err(|e| format!("{e}\n  again: differential plate --kind {number} --seed {seed}"))
     });
     tally.print();
-    same
+    tally.met.print(plan.pairs) && same
 }
 
 /// Compares one plate of a run: the kind by its number, and the plate's own seed.
@@ -86,7 +88,7 @@ pub fn run_one(kind: u64, seed: u64) -> Result<bool, String> {
 
 fn compare(kind: Kind, seed: u64, tally: &Tally) -> Result<(), String> {
     let random = &mut Random::new(seed);
-    let plate = plate(kind, random);
+    let plate = in_seeded_layers(plate(kind, random), seed);
     if plate.points.len() > 1_000 || plate.lengths.len() > 50 {
         sound(&plate, random.pick(&[Outside, Inside]), tally, 2, random)?;
     } else {
@@ -175,7 +177,11 @@ fn handed<'a>(
     tally: &'a Tally,
     random: &mut Random,
 ) -> Result<Case<'a>, String> {
-    let due = results(&plate.points, &plate.lengths, plate.size, strategy);
+    let due = results(plate, strategy);
+    if let Ok(due) = &due {
+        let held = due.as_ref().map(|results| results.held);
+        tally.met.plate(plate, strategy, held.map_err(|&refused| refused));
+    }
     Case::new(plate, strategy, tally, due, random)
 }
 
@@ -189,6 +195,7 @@ impl Case<'_> {
         let result = c::start(
             self.points.slice(),
             self.lengths.slice(),
+            self.layers.slice(),
             self.plate.size.width,
             self.plate.size.height,
             self.strategy == Inside,
@@ -210,6 +217,7 @@ impl Case<'_> {
             let result = c::order(
                 case.points.slice(),
                 case.lengths.slice(),
+                case.layers.slice(),
                 case.plate.size.width,
                 case.plate.size.height,
                 case.strategy == Inside,
@@ -229,6 +237,7 @@ impl Case<'_> {
             let result = c::straight(
                 case.points.slice(),
                 case.lengths.slice(),
+                case.layers.slice(),
                 case.plate.size.width,
                 case.plate.size.height,
                 case.strategy == Inside,
@@ -249,6 +258,9 @@ impl Case<'_> {
         answer: impl Fn(&Self, &mut [T], &mut [u32]) -> [u32; 3],
     ) -> Result<(), String> {
         self.tally.count(call, due[0]);
+        if due[0] == rule::BAD_LAYER {
+            self.tally.met.lent(self.plate, work, slice);
+        }
         let name = format!("{call:?} call, lent a slice of {slice} and work of {work}");
         let mut slice = Lent::random(slice, random);
         let mut work = Lent::random(work, random);
@@ -263,22 +275,25 @@ impl Case<'_> {
     /// The safe interface, where it allocates the slices itself. It comes last: there a write
     /// beyond a slice would not show.
     fn wrapper(&self) -> Result<(), String> {
+        self.plates().into_iter().try_for_each(|plate| self.wrapped(plate))
+    }
+
+    fn wrapped(&self, plate: twillharbor::Plate) -> Result<(), String> {
         let refused = |refusal: Refusal| (refusal.number(), refusal.place());
-        let (points, lengths) = (self.points.slice(), self.lengths.slice());
         let (size, strategy) = (self.plate.size, self.strategy);
         let due = self.due.as_ref().map_err(|&refused| refused);
 
-        let start = twillharbor::start(points, lengths, size, strategy)
-            .map(|start| [start.contour, start.reversed.into()]);
+        let start = plate.start(size, strategy).map(|start| [start.contour, start.reversed.into()]);
         self.same("start", "safe interface", &start.map_err(refused), &self.start_due())?;
 
-        let order = twillharbor::order(points, lengths, size, strategy).map(|order| {
+        let order = plate.order(size, strategy).map(|order| {
             order.iter().map(|entry| [entry.contour, entry.reversed.into()]).collect::<Vec<_>>()
         });
         let order_due = due.map(|results| results.order.clone());
         self.same("order", "safe interface", &order.map_err(refused), &order_due)?;
 
-        let straight = twillharbor::straight(points, lengths, size, strategy)
+        let straight = plate
+            .straight(size, strategy)
             .map(|path| path.iter().map(|p| [p.x, p.y].map(f64::to_bits)).collect::<Vec<_>>());
         let straight_due = due.map(|results| {
             results.straight.iter().map(|p| p.map(f64::to_bits)).collect::<Vec<_>>()

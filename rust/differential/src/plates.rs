@@ -5,18 +5,42 @@ use harness::random::Random;
 use twillharbor::Size;
 
 use crate::floats::{nudged, signed, with_exponent};
+use crate::rule::BAD_LAYER;
 
 /// The greatest magnitude of a coordinate.
 pub const LIMIT: f64 = 1_000_000.0;
 pub const MOST_CONTOURS: usize = 4_096;
 pub const MOST_POINTS: u32 = 65_536;
+/// How many layers there are.
+pub const LAYERS: u64 = 16;
 
 /// What is handed over, but for the strategy.
 #[derive(Debug, Clone)]
 pub struct Plate {
     pub points: Vec<f64>,
     pub lengths: Vec<u32>,
+    pub layers: Vec<u32>,
     pub size: Size,
+}
+
+impl Plate {
+    /// The plate of these slices, every contour in layer 0.
+    pub fn new(points: Vec<f64>, lengths: Vec<u32>, size: Size) -> Self {
+        let layers = vec![0; lengths.len()];
+        Self { points, lengths, layers, size }
+    }
+
+    /// The layers of the contours that hold a point.
+    pub fn held_layers(&self) -> impl Iterator<Item = u32> + Clone {
+        let contours = self.lengths.iter().zip(&self.layers);
+        contours.filter(|&(&length, _)| length > 0).map(|(_, &layer)| layer)
+    }
+
+    /// The layer of all contours that hold a point, if they have one in common.
+    pub fn one_layer(&self) -> Option<u32> {
+        let first = self.held_layers().next()?;
+        self.held_layers().all(|layer| layer == first).then_some(first)
+    }
 }
 
 /// How the points of a plate lie.
@@ -187,7 +211,7 @@ pub fn of_lengths(kind: Kind, mut lengths: Vec<u32>, random: &mut Random) -> Pla
         assert_eq!(contour.len(), length as usize);
         drawn.push(contour);
     }
-    Plate { points: drawn.concat().into_flattened(), lengths, size }
+    Plate::new(drawn.concat().into_flattened(), lengths, size)
 }
 
 /// Sizes of every sort; a small one where the points lie around the centre.
@@ -331,11 +355,15 @@ fn point(kind: Kind, frame: &Frame, random: &mut Random) -> [f64; 2] {
     }
 }
 
-/// What is done to a plate so that it is refused, for its points or its lengths.
+/// What is done to a plate so that it is refused, for its points, lengths or layers.
 #[derive(Debug, Clone, Copy, PartialEq, Eq)]
 pub enum Damage {
     OffThePlate,
     SeveralOffThePlate,
+    HighLayer,
+    SeveralHighLayers,
+    HighLayerOfEmpty,
+    LayersMiscounted,
     Miscounted,
     ManyPoints,
     SumPastTwoTo32,
@@ -349,15 +377,23 @@ impl Damage {
             Self::ManyContours => 1,
             Self::SumPastTwoTo32 | Self::ManyPoints => 2,
             Self::Miscounted => 3,
+            Self::LayersMiscounted
+            | Self::HighLayer
+            | Self::SeveralHighLayers
+            | Self::HighLayerOfEmpty => BAD_LAYER,
             Self::OffThePlate | Self::SeveralOffThePlate => 4,
         }
     }
 }
 
 /// Where a plate gets several damages, it gets them in this order.
-pub const DAMAGES: [Damage; 6] = [
+pub const DAMAGES: [Damage; 10] = [
     Damage::OffThePlate,
     Damage::SeveralOffThePlate,
+    Damage::HighLayer,
+    Damage::SeveralHighLayers,
+    Damage::HighLayerOfEmpty,
+    Damage::LayersMiscounted,
     Damage::Miscounted,
     Damage::ManyPoints,
     Damage::SumPastTwoTo32,
@@ -365,10 +401,70 @@ pub const DAMAGES: [Damage; 6] = [
 ];
 
 /// A copy with that damage. Without points none can be taken off the plate, and without
-/// contours a length cannot be changed: then the copy may be sound.
+/// contours no length or layer can be changed: then the copy may be sound. Layers that are as
+/// many as the lengths stay so, but for their own damages.
 pub fn damaged(plate: &Plate, damage: Damage, random: &mut Random) -> Plate {
-    let mut plate = plate.clone();
-    let Plate { points, lengths, .. } = &mut plate;
+    let mut copy = plate.clone();
+    if damage.number() == BAD_LAYER {
+        damage_layers(&mut copy, damage, random);
+    } else {
+        damage_points(&mut copy, damage, random);
+        if plate.layers.len() == plate.lengths.len() {
+            copy.layers.resize_with(copy.lengths.len(), || random.below(LAYERS) as u32);
+        }
+    }
+    copy
+}
+
+fn damage_layers(plate: &mut Plate, damage: Damage, random: &mut Random) {
+    let Plate { lengths, layers, .. } = plate;
+    match damage {
+        Damage::LayersMiscounted => match random.below(4) {
+            0 if !layers.is_empty() => layers.clear(),
+            1 if !layers.is_empty() => {
+                layers.pop();
+            }
+            2 => layers.extend((0..random.between(2, 5)).map(|_| random.below(LAYERS) as u32)),
+            _ => layers.push(random.pick(&[0, 15, 16])),
+        },
+        Damage::HighLayerOfEmpty => {
+            let at = lengths.iter().position(|&length| length == 0).unwrap_or_else(|| {
+                let at = random.below(lengths.len() as u64 + 1) as usize;
+                lengths.insert(at, 0);
+                layers.insert(at.min(layers.len()), 0);
+                at
+            });
+            if let Some(layer) = layers.get_mut(at) {
+                *layer = high_layer(random);
+            }
+        }
+        _ => {
+            let several = damage == Damage::SeveralHighLayers;
+            let times = if several { random.between(2, 5) } else { 1 };
+            for _ in 0..times {
+                if !layers.is_empty() {
+                    let contour = random.below(layers.len() as u64) as usize;
+                    layers[contour] = high_layer(random);
+                }
+            }
+        }
+    }
+}
+
+fn high_layer(random: &mut Random) -> u32 {
+    match random.below(10) {
+        0..3 => 16,
+        3..5 => 17,
+        5 => 1 << 31,
+        6 => u32::MAX,
+        // Its low four bits are those of a layer.
+        7 => random.below(LAYERS) as u32 | 16 << random.below(28),
+        _ => (random.bits() as u32).max(16),
+    }
+}
+
+fn damage_points(plate: &mut Plate, damage: Damage, random: &mut Random) {
+    let Plate { points, lengths, .. } = plate;
     match damage {
         Damage::ManyContours => {
             let contours = MOST_CONTOURS + random.pick(&[1, 1, 2, 500]);
@@ -418,7 +514,7 @@ pub fn damaged(plate: &Plate, damage: Damage, random: &mut Random) -> Plate {
                 }
             }
         },
-        Damage::OffThePlate | Damage::SeveralOffThePlate => {
+        _ => {
             let several = damage == Damage::SeveralOffThePlate;
             let times = if several { random.between(2, 5) } else { 1 };
             for _ in 0..times {
@@ -429,7 +525,6 @@ pub fn damaged(plate: &Plate, damage: Damage, random: &mut Random) -> Plate {
             }
         }
     }
-    plate
 }
 
 /// A copy with one damage or several, or none where several were tried.
@@ -437,8 +532,8 @@ pub fn damaged_somehow(plate: &Plate, random: &mut Random) -> Plate {
     let alone = random.one_in(2).then(|| random.pick(&DAMAGES));
     let mut copy = plate.clone();
     for damage in DAMAGES {
-        // Among several the lowest numbers, which win, are rarer.
-        let rarity = if damage.number() < 3 { 6 } else { 2 };
+        // Among several those that win are rarer, and each of the four of the layers is.
+        let rarity = if matches!(damage.number(), 1 | 2 | BAD_LAYER) { 6 } else { 2 };
         if alone.map_or(random.one_in(rarity), |alone| alone == damage) {
             copy = damaged(&copy, damage, random);
         }
@@ -466,8 +561,11 @@ fn off_the_plate(random: &mut Random) -> f64 {
 #[cfg(test)]
 mod tests {
     use harness::random::Random;
+    use twillharbor::Size;
 
-    use super::{DAMAGES, KINDS, MOST_CONTOURS, MOST_POINTS, damaged, lengths, plate, small_plate};
+    use super::{
+        DAMAGES, KINDS, MOST_CONTOURS, MOST_POINTS, Plate, damaged, lengths, plate, small_plate,
+    };
     use crate::rule::checked;
 
     #[test]
@@ -477,12 +575,12 @@ mod tests {
             let (mut points, mut blank) = (0, 0);
             for _ in 0..500 {
                 let plate = plate(kind, &mut random);
-                assert_eq!(checked(&plate.points, &plate.lengths), Ok(()), "{name}");
+                assert_eq!(checked(&plate), Ok(()), "{name}");
                 points += plate.points.len() / 2;
                 blank += usize::from(plate.points.is_empty());
                 let plate = small_plate(kind, &mut random);
                 assert!(plate.lengths.len() <= 12 && plate.points.len() <= 40);
-                assert_eq!(checked(&plate.points, &plate.lengths), Ok(()), "{name}");
+                assert_eq!(checked(&plate), Ok(()), "{name}");
             }
             assert!(points > 1_000 && blank < 250, "{name}: {points} points, {blank} blank");
         }
@@ -515,9 +613,20 @@ mod tests {
             tried += 1;
             for damage in DAMAGES {
                 let copy = damaged(&plate, damage, &mut random);
-                let refused = checked(&copy.points, &copy.lengths);
+                let refused = checked(&copy);
                 assert_eq!(refused.map_err(|(number, _)| number), Err(damage.number()));
             }
         }
+    }
+
+    #[test]
+    fn one_layer_is_that_of_the_contours_that_hold_a_point() {
+        let plate = |lengths: &[u32], layers: &[u32]| {
+            let plate = Plate::new(vec![], lengths.to_vec(), Size::default());
+            Plate { layers: layers.to_vec(), ..plate }.one_layer()
+        };
+        assert_eq!(plate(&[1, 0, 2], &[7, 0, 7]), Some(7));
+        assert_eq!(plate(&[1, 1, 2], &[7, 0, 7]), None);
+        assert_eq!(plate(&[0], &[3]), None);
     }
 }

@@ -3,27 +3,29 @@
 //! A file is a list of words. A word is 16 lower-case hexadecimal digits and then one space
 //! or newline: the bits of an f64, or a whole number. The first word is the number of rows;
 //! then come the rows, one after the other. The reference refuses nothing: a refusal in a
-//! row is document 01's rule.
+//! row is the documents' rule.
 //!
 //! A row of the distance call is eight words: a.x, a.y, b.x, b.y, the number, the place, the
 //! squared and the plain distance. In a refusal both distances are 0.
 //!
 //! A row of the start, order and straight calls is, in this order:
 //!
-//! - eight words: the number of coordinates, the number of contours, width, height, 1 for
-//!   Inside and 0 for Outside, and the lengths of the order slice, of the path slice and of
-//!   the work slice, the same for order and straight;
-//! - the coordinates; the contours' lengths;
+//! - nine words: the number of coordinates, the number of contours, the number of layers, width,
+//!   height, 1 for Inside and 0 for Outside, and the lengths of the order slice, of the path
+//!   slice and of the work slice, the same for order and straight;
+//! - the coordinates; the contours' lengths; the layers;
 //! - the start call's number, place, contour and reversed;
 //! - the order call's number, place and entries, then the whole order slice as the call
 //!   leaves it, where every element was [`ORDER_FILL`];
 //! - the straight call's number, place and points, then the whole path slice as the call
 //!   leaves it, where every element was [`PATH_FILL`].
 //!
-//! A plate has at most 40 coordinates and 12 contours, and each slice at most 64 elements.
+//! A plate has at most 40 coordinates, 12 contours and 16 layers, and each slice at most 64
+//! elements.
 //!
 //! The rows of the retrace call are described in `retrace`.
 
+mod in_layers;
 pub mod retrace;
 
 use harness::random::Random;
@@ -32,6 +34,7 @@ use twillharbor::StartPointStrategy::{self, Inside, Outside};
 
 use crate::distances::{Answer, expected};
 use crate::floats::power;
+use crate::layers;
 use crate::lent::Number;
 use crate::pairs::{self, Pair, pair};
 use crate::plates::{self, Damage, Plate, small_plate};
@@ -50,6 +53,7 @@ const PATH_FILL: f64 = 100.0;
 
 const MOST_COORDINATES: usize = 40;
 const MOST_LENGTHS: usize = 12;
+const MOST_LAYERS: usize = 16;
 const MOST_ELEMENTS: usize = 64;
 
 /// A file as it is written.
@@ -111,8 +115,8 @@ struct Row {
 }
 
 /// The rows of the start, order and straight calls: document 01's plates A to G and others
-/// that separate one rule from another, then the same number of each kind of plate and of
-/// damage.
+/// that separate one rule from another, plates that document 02's layers decide, then the same
+/// number of each kind of plate, in layers, and of damage.
 pub fn plates() -> String {
     let rows = rows();
     let mut words = Words::default();
@@ -122,17 +126,22 @@ pub fn plates() -> String {
 }
 
 fn rows() -> Vec<Row> {
-    let mut random = Random::new(13);
-    let random = &mut random;
-    let mut rows: Vec<Row> = fixed()
+    let random = &mut Random::new(13);
+    let of_layers = &mut Random::new(14);
+    let mut rows: Vec<Row> = [fixed(), in_layers::sound()]
+        .concat()
         .into_iter()
         .flat_map(|plate| [Outside, Inside].map(|strategy| row(plate.clone(), strategy, 0, random)))
         .collect();
+    for (turn, plate) in in_layers::refused().into_iter().enumerate() {
+        rows.push(row(plate, [Outside, Inside][turn % 2], turn, random));
+    }
     for (kind, _) in plates::KINDS {
         for turn in 0..PLATES {
             let strategy = [Outside, Inside][turn % 2];
+            let plate = layers::in_layers(small_plate(kind, random), of_layers);
             // The slices in turn over all kinds, so that each meets each.
-            rows.push(row(small_plate(kind, random), strategy, rows.len() / 2, random));
+            rows.push(row(plate, strategy, rows.len() / 2, random));
         }
     }
     for damage in fitting_damages() {
@@ -145,7 +154,9 @@ fn rows() -> Vec<Row> {
 }
 
 fn fits(plate: &Plate) -> bool {
-    plate.points.len() <= MOST_COORDINATES && plate.lengths.len() <= MOST_LENGTHS
+    plate.points.len() <= MOST_COORDINATES
+        && plate.lengths.len() <= MOST_LENGTHS
+        && plate.layers.len() <= MOST_LAYERS
 }
 
 /// Too many contours do not fit in a row.
@@ -158,7 +169,7 @@ fn damaged_copy(damage: Damage, random: &mut Random) -> Plate {
     loop {
         let (kind, _) = random.pick(&plates::KINDS);
         let copy = plates::damaged(&small_plate(kind, random), damage, random);
-        if fits(&copy) && rule::checked(&copy.points, &copy.lengths).is_err() {
+        if fits(&copy) && rule::checked(&copy).is_err() {
             return copy;
         }
     }
@@ -224,12 +235,14 @@ fn fixed() -> Vec<Plate> {
         (&[&[(LIMIT, -LIMIT), (-LIMIT, LIMIT)], &[(LIMIT, BEYOND)]], 0, 0),
         (&[&[(LIMIT, -LIMIT), (-BEYOND, LIMIT)], &[(LIMIT, BEYOND)]], 0, 0),
     ];
-    let plates = plates.map(|(contours, width, height)| Plate {
-        points: contours.concat().iter().flat_map(|&(x, y)| [x, y]).collect(),
-        lengths: contours.iter().map(|contour| contour.len() as u32).collect(),
-        size: Size { width, height },
-    });
+    let plates = plates.map(|(contours, width, height)| plate_of(contours, Size { width, height }));
     [&plates[..], &refused_plates()].concat()
+}
+
+fn plate_of(contours: &[&[(f64, f64)]], size: Size) -> Plate {
+    let points = contours.concat().iter().flat_map(|&(x, y)| [x, y]).collect();
+    let lengths = contours.iter().map(|contour| contour.len() as u32).collect();
+    Plate::new(points, lengths, size)
 }
 
 /// Plates that are refused. More than one refusal's condition holds, but for the first and the
@@ -246,29 +259,18 @@ fn refused_plates() -> Vec<Plate> {
         (&[1.0, -BEYOND], &[]),
         (&[1.0, 1.0], &[0, 0]),
     ];
-    let refused = refused.map(|(points, lengths)| Plate {
-        points: points.to_vec(),
-        lengths: lengths.to_vec(),
-        size: Size::default(),
-    });
+    let refused = refused
+        .map(|(points, lengths)| Plate::new(points.to_vec(), lengths.to_vec(), Size::default()));
     refused.to_vec()
 }
 
 fn write_row(words: &mut Words, row: &Row) {
-    let Row { plate: Plate { points, lengths, size }, strategy, order, path, work } = row;
-    assert!(points.len() <= MOST_COORDINATES && lengths.len() <= MOST_LENGTHS);
+    let Row { plate, strategy, order, path, work } = row;
     assert!((*order).max(*path).max(*work) <= MOST_ELEMENTS);
-    let inside = u64::from(*strategy == Inside);
-    let count = |n: usize| n as u64;
-    words.line(
-        [count(points.len()), count(lengths.len()), size.width.into(), size.height.into()]
-            .into_iter()
-            .chain([inside, count(*order), count(*path), count(*work)]),
-    );
-    words.line(points.iter().map(|c| c.bits()));
-    words.line(lengths.iter().map(|n| n.bits()));
+    write_plate(words, plate, *strategy, &[*order, *path, *work]);
 
-    let due = results(points, lengths, *size, *strategy).expect("the rules agree");
+    let due = results(plate, *strategy).expect("the rules agree");
+    let contours = plate.lengths.len();
     let start = match due.as_ref().map(|results| results.start) {
         Ok(Some([contour, reversed])) => [0, 0, contour, reversed],
         Ok(None) => [7, 0, 0, 0],
@@ -276,11 +278,24 @@ fn write_row(words: &mut Words, row: &Row) {
     };
     words.line(start.map(u64::from));
     let entries = due.as_ref().map(|results| &results.order[..]).map_err(|&refused| refused);
-    let outcome = rule::outcome(entries, lengths.len(), *work, rule::order_room(*order));
+    let outcome = rule::outcome(entries, contours, *work, rule::order_room(*order));
     write_outcome(words, outcome, *order, ORDER_FILL);
     let points = due.as_ref().map(|results| &results.straight[..]).map_err(|&refused| refused);
-    let outcome = rule::outcome(points, lengths.len(), *work, rule::straight_room(*path));
+    let outcome = rule::outcome(points, contours, *work, rule::straight_room(*path));
     write_outcome(words, outcome, *path, PATH_FILL);
+}
+
+/// The words of a row before its answers: the plate and the lengths of the slices.
+fn write_plate(words: &mut Words, plate: &Plate, strategy: StartPointStrategy, slices: &[usize]) {
+    assert!(fits(plate));
+    let Plate { points, lengths, layers, size } = plate;
+    let counts = [points.len(), lengths.len(), layers.len()].map(|count| count as u64);
+    let numbers = [size.width.into(), size.height.into(), u64::from(strategy == Inside)];
+    let slices = slices.iter().map(|&length| length as u64);
+    words.line(counts.into_iter().chain(numbers).chain(slices));
+    words.line(points.iter().map(|c| c.bits()));
+    words.line(lengths.iter().map(|n| n.bits()));
+    words.line(layers.iter().map(|n| n.bits()));
 }
 
 fn write_outcome<T: Number>(
@@ -301,8 +316,12 @@ mod tests {
     use twillharbor::c;
 
     use super::{
-        MOST_COORDINATES, MOST_ELEMENTS, MOST_LENGTHS, ORDER_FILL, PATH_FILL, distances, plates,
+        MOST_COORDINATES, MOST_ELEMENTS, MOST_LAYERS, MOST_LENGTHS, ORDER_FILL, PATH_FILL,
+        distances, plates,
     };
+
+    /// A program that replays a file reads fewer bytes than this.
+    pub const MOST_BYTES: usize = 262_144;
 
     /// The words of a file, each with exactly one separator after it.
     pub fn words(text: &str) -> Vec<u64> {
@@ -345,13 +364,14 @@ mod tests {
     /// Reads the rows as a program without Rust would, and calls the library.
     #[test]
     fn the_library_gives_what_the_plates_record() {
-        let words = words(&plates());
-        let mut words = words.into_iter();
+        let text = plates();
+        assert!(text.len() < MOST_BYTES, "{} bytes", text.len());
+        let mut words = words(&text).into_iter();
         let mut next = || words.next().expect("the row has another word");
         let rows = next();
-        let mut numbers = [[0; 8]; 3];
+        let mut numbers = [[0; 14]; 3];
         for _ in 0..rows {
-            let [coordinates, contours] = [next() as usize, next() as usize];
+            let [coordinates, contours, layers] = [(); 3].map(|()| next() as usize);
             let [width, height] = [(); 2].map(|()| u32::try_from(next()).unwrap());
             let inside = match next() {
                 0 => false,
@@ -360,32 +380,38 @@ mod tests {
             };
             let [order, path, work] = [(); 3].map(|()| next() as usize);
             assert!(coordinates <= MOST_COORDINATES && contours <= MOST_LENGTHS);
+            assert!(layers <= MOST_LAYERS);
             assert!(order.max(path).max(work) <= MOST_ELEMENTS);
             let points: Vec<f64> = (0..coordinates).map(|_| f64::from_bits(next())).collect();
-            let lengths: Vec<u32> = (0..contours).map(|_| u32::try_from(next()).unwrap()).collect();
+            let [lengths, layers]: [Vec<u32>; 2] = [contours, layers]
+                .map(|count| (0..count).map(|_| u32::try_from(next()).unwrap()).collect());
 
-            let r = c::start(&points, &lengths, width, height, inside);
+            let r = c::start(&points, &lengths, &layers, width, height, inside);
             let answer = [r.number, r.place, r.contour, r.reversed].map(u64::from);
             assert_eq!(answer, [(); 4].map(|()| next()));
             numbers[0][r.number as usize] += 1;
 
             let mut slice = vec![ORDER_FILL; order];
             let mut lent = vec![7; work];
-            let r = c::order(&points, &lengths, width, height, inside, &mut slice, &mut lent);
+            let (slice_lent, work) = (&mut slice, &mut lent);
+            let r = c::order(&points, &lengths, &layers, width, height, inside, slice_lent, work);
             assert_eq!([r.number, r.place, r.entries].map(u64::from), [(); 3].map(|()| next()));
             slice.iter().for_each(|&n| assert_eq!(u64::from(n), next()));
             numbers[1][r.number as usize] += 1;
 
             let mut slice = vec![PATH_FILL; path];
-            let r = c::straight(&points, &lengths, width, height, inside, &mut slice, &mut lent);
+            let (slice_lent, work) = (&mut slice, &mut lent);
+            let r =
+                c::straight(&points, &lengths, &layers, width, height, inside, slice_lent, work);
             assert_eq!([r.number, r.place, r.points].map(u64::from), [(); 3].map(|()| next()));
             slice.iter().for_each(|&x| assert_eq!(x.to_bits(), next()));
             numbers[2][r.number as usize] += 1;
         }
         assert_eq!(words.next(), None);
         // Every number but 1 that the call can give is there, several times.
-        for (call, due) in
-            [[0, 2, 3, 4, 7, 7], [0, 2, 3, 4, 5, 6], [0, 2, 3, 4, 5, 6]].iter().enumerate()
+        for (call, due) in [[0, 2, 3, 13, 4, 7, 7], [0, 2, 3, 13, 4, 5, 6], [0, 2, 3, 13, 4, 5, 6]]
+            .iter()
+            .enumerate()
         {
             assert!(due.iter().all(|&number| numbers[call][number] >= 4), "{numbers:?}");
         }

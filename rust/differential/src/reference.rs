@@ -1,12 +1,13 @@
 //! The reference's answers to the start, order, straight and retrace calls.
+//!
+//! They are those of the copy with layers. Where all contours that hold a point are of one layer,
+//! mujou's own functions, which know no layers, must give the same.
 
-use harness::plates::polylines;
-use mujou_reference::join::{capped, door};
-use mujou_reference::optimize::optimize_path_order;
-use mujou_reference::types::{self, Dimensions, Point, Polyline};
-use twillharbor::{Size, StartPointStrategy};
+use twillharbor::StartPointStrategy;
 
-use crate::rule::{self, Refused, Retrace};
+use crate::mujou::{Layered, Mujou, Plain};
+use crate::plates::Plate;
+use crate::rule::{self, Held, Refused, Retrace};
 
 /// What becomes of a plate, whatever slices are lent for it.
 #[derive(Debug, Clone)]
@@ -16,160 +17,177 @@ pub struct Results {
     /// Each entry's contour number and 1 if it is reversed, else 0.
     pub order: Vec<[u32; 2]>,
     pub straight: Vec<[f64; 2]>,
+    /// What the layers did to the choices after the start.
+    pub held: Held,
 }
 
-/// The reference's results, or the refusal of a plate that document 01 refuses for its
-/// points or lengths. It is an error where the reference and document 01 as transcribed in
-/// `rule` differ.
+/// The reference's results, or the refusal of a plate that is refused for its points, lengths or
+/// layers. It is an error where the reference and the documents as transcribed in `rule` differ.
 pub fn results(
-    points: &[f64],
-    lengths: &[u32],
-    size: Size,
+    plate: &Plate,
     strategy: StartPointStrategy,
 ) -> Result<Result<Results, Refused>, String> {
-    if let Err(refused) = rule::checked(points, lengths) {
+    if let Err(refused) = rule::checked(plate) {
         return Ok(Err(refused));
     }
-    let contours = polylines(points, lengths);
-    let (theirs, dims) = (their_strategy(strategy), dimensions(size));
-    let results = Results {
-        start: start(&contours, theirs, dims),
-        order: order(&contours, theirs, dims),
-        straight: coordinates(&door::join_straight_line(&contours, theirs, dims)),
-    };
-    let ordered = optimize_path_order(&contours, theirs, dims);
-    let as_tagged = |(entry, ordered): (&[u32; 2], &Polyline)| {
-        let mut contour = coordinates(&contours[entry[0] as usize]);
+    let (start, order, straight) = joined::<Layered>(plate, strategy)?;
+    if plate.one_layer().is_some() {
+        let (their_start, their_order, their_straight) = joined::<Plain>(plate, strategy)?;
+        if (start, &order) != (their_start, &their_order) || !same_bits(&straight, &their_straight)
+        {
+            return Err("with one layer the reference's copy differs from it".to_string());
+        }
+    }
+    let rule_start = rule::start(plate, strategy);
+    let (rule_order, held) = rule::order(plate, strategy);
+    if (rule_start, &rule_order) != (start, &order) {
+        return Err(format!(
+            "the documents as transcribed start with {rule_start:?} and order {rule_order:?}, \
+             the reference {start:?} and {order:?}"
+        ));
+    }
+    if !same_bits(&rule::straight(&plate.points, &plate.lengths, &order), &straight) {
+        return Err("the documents as transcribed have another path than the reference".to_string());
+    }
+    Ok(Ok(Results { start, order, straight, held }))
+}
+
+type Joined = (Option<[u32; 2]>, Vec<[u32; 2]>, Vec<[f64; 2]>);
+
+/// Start, order and straight path. It is an error where contours that carry their number are
+/// ordered in another way than the contours themselves.
+fn joined<M: Mujou>(plate: &Plate, strategy: StartPointStrategy) -> Result<Joined, String> {
+    let contours = contours::<M>(plate);
+    let order = order::<M>(plate, strategy);
+    let ordered = M::order(&contours, strategy, plate.size);
+    let as_tagged = |(entry, ordered): (&[u32; 2], &M::Contour)| {
+        let mut contour = M::points(&contours[entry[0] as usize]);
         if entry[1] == 1 {
             contour.reverse();
         }
-        same_bits(&contour, &coordinates(ordered))
+        same_bits(&contour, &M::points(ordered))
     };
-    if ordered.len() != results.order.len() || !results.order.iter().zip(&ordered).all(as_tagged) {
+    if ordered.len() != order.len() || !order.iter().zip(&ordered).all(as_tagged) {
         return Err("the reference orders tagged contours in another way".to_string());
     }
-    let start = rule::start(points, lengths, size, strategy);
-    let order = rule::order(points, lengths, size, strategy);
-    if (start, &order) != (results.start, &results.order) {
-        let Results { start: their_start, order: their_order, .. } = results;
-        return Err(format!(
-            "document 01 as transcribed starts with {start:?} and orders {order:?}, \
-             the reference {their_start:?} and {their_order:?}"
-        ));
-    }
-    if !same_bits(&rule::straight(points, lengths, &order), &results.straight) {
-        return Err("the reference's straight path is not that of its order".to_string());
-    }
-    Ok(Ok(results))
+    let straight = M::points(&M::straight(&contours, strategy, plate.size));
+    Ok((start::<M>(plate, &contours, strategy), order, straight))
 }
 
-/// The reference's path with document 01's marks, or the refusal of a plate that document 01
-/// refuses for its points or lengths. A path that has more points than the cap says can be
+/// The reference's path with document 01's marks, or the refusal of a plate that is refused for
+/// its points, lengths or layers. A path that has more points than the cap says can be
 /// exponentially long: then the copy of the reference that stops gives its beginning.
 ///
 /// The reference has no marks. They are those of document 01 as transcribed in `rule`, and it
 /// is an error where its path differs from the reference's.
 pub fn retrace(
-    points: &[f64],
-    lengths: &[u32],
-    size: Size,
+    plate: &Plate,
     strategy: StartPointStrategy,
     cap: usize,
 ) -> Result<Result<Retrace, Refused>, String> {
-    if let Err(refused) = rule::checked(points, lengths) {
+    if let Err(refused) = rule::checked(plate) {
         return Ok(Err(refused));
     }
-    let mut steps = rule::retrace::retrace(points, lengths, size, strategy, cap);
+    let (mut steps, held) = rule::retrace::retrace(plate, strategy, cap);
     let whole = steps.len() <= cap;
     steps.truncate(cap);
-
-    let contours = polylines(points, lengths);
-    let (theirs, dims) = (their_strategy(strategy), dimensions(size));
-    let mut path = coordinates(&if whole {
-        door::join_retrace(&contours, theirs, dims)
-    } else {
-        capped::join_retrace(&contours, theirs, dims, cap)
-    });
-    if !whole && path.len() <= cap {
-        return Err(format!(
-            "document 01 as transcribed has a path of more than {cap} points, the reference one \
-             of {}",
-            path.len()
-        ));
+    let path = retraced::<Layered>(plate, strategy, cap, whole)?;
+    if plate.one_layer().is_some()
+        && !same_bits(&path, &retraced::<Plain>(plate, strategy, cap, whole)?)
+    {
+        return Err("with one layer the reference's copy differs from it".to_string());
     }
-    path.truncate(if whole { usize::MAX } else { cap });
 
-    let (vertices, _) = points.as_chunks();
+    let (vertices, _) = plate.points.as_chunks();
     let ours: Vec<[f64; 2]> = steps.iter().map(|step| vertices[step.vertex]).collect();
     if !same_bits(&ours, &path) {
         let apart = ours.iter().zip(&path).position(|(a, b)| !same_bits(&[*a], &[*b]));
         return Err(format!(
-            "document 01 as transcribed has another path than the reference: {} and {} points, \
+            "the documents as transcribed have another path than the reference: {} and {} points, \
              different from place {:?} on",
             ours.len(),
             path.len(),
             apart
         ));
     }
-    Ok(Ok(Retrace { path, marks: steps.iter().map(|step| step.mark).collect(), whole }))
+    Ok(Ok(Retrace { path, marks: steps.iter().map(|step| step.mark).collect(), whole, held }))
 }
 
-fn their_strategy(strategy: StartPointStrategy) -> types::StartPointStrategy {
-    match strategy {
-        StartPointStrategy::Outside => types::StartPointStrategy::Outside,
-        StartPointStrategy::Inside => types::StartPointStrategy::Inside,
+/// The whole path, or as many points of a longer one as the cap says.
+fn retraced<M: Mujou>(
+    plate: &Plate,
+    strategy: StartPointStrategy,
+    cap: usize,
+    whole: bool,
+) -> Result<Vec<[f64; 2]>, String> {
+    let contours = contours::<M>(plate);
+    let cap = (!whole).then_some(cap);
+    let mut path = M::points(&M::retrace(&contours, strategy, plate.size, cap));
+    if let Some(cap) = cap {
+        if path.len() <= cap {
+            return Err(format!(
+                "the documents as transcribed have a path of more than {cap} points, the \
+                 reference one of {}",
+                path.len()
+            ));
+        }
+        path.truncate(cap);
     }
+    Ok(path)
 }
 
-fn dimensions(size: Size) -> Dimensions {
-    Dimensions { width: size.width, height: size.height }
+/// The contours, skipped ones too.
+fn contours<M: Mujou>(plate: &Plate) -> Vec<M::Contour> {
+    let (mut points, _) = plate.points.as_chunks();
+    let contours = plate.lengths.iter().zip(&plate.layers).map(|(&length, &layer)| {
+        let (contour, rest) = points.split_at(length as usize);
+        points = rest;
+        M::contour(contour, layer)
+    });
+    contours.collect()
 }
 
-fn start(
-    contours: &[Polyline],
-    strategy: types::StartPointStrategy,
-    dims: Dimensions,
+fn start<M: Mujou>(
+    plate: &Plate,
+    contours: &[M::Contour],
+    strategy: StartPointStrategy,
 ) -> Option<[u32; 2]> {
-    let (numbers, candidates): (Vec<u32>, Vec<&Polyline>) =
-        (0..).zip(contours).filter(|(_, contour)| !contour.is_empty()).unzip();
+    let numbered = (0..).zip(contours).zip(&plate.lengths);
+    let (numbers, candidates): (Vec<u32>, Vec<&M::Contour>) =
+        numbered.filter(|&(_, &length)| length > 0).map(|(numbered, _)| numbered).unzip();
     if candidates.is_empty() {
         return None;
     }
-    let (index, reversed) = door::choose_start_contour(&candidates, strategy, dims);
+    let (index, reversed) = M::start(&candidates, strategy, plate.size);
     Some([numbers[index], reversed.into()])
 }
 
 /// The order, read off contours that carry their number.
 ///
 /// `optimize_path_order` gives the contours themselves, and two may have equal points. It
-/// looks at nothing but their first and last points, so between these it is given two
-/// points that name the contour and, by which of them comes first, its sense.
-fn order(
-    contours: &[Polyline],
-    strategy: types::StartPointStrategy,
-    dims: Dimensions,
-) -> Vec<[u32; 2]> {
-    let tagged: Vec<Polyline> = contours
-        .iter()
-        .enumerate()
-        .map(|(number, contour)| match (contour.first(), contour.last()) {
+/// looks at nothing but their layers and their first and last points, so between these it is
+/// given two points that name the contour and, by which of them comes first, its sense.
+fn order<M: Mujou>(plate: &Plate, strategy: StartPointStrategy) -> Vec<[u32; 2]> {
+    let (mut points, _) = plate.points.as_chunks::<2>();
+    let contours = plate.lengths.iter().zip(&plate.layers).enumerate();
+    let tagged = contours.map(|(number, (&length, &layer))| {
+        let (contour, rest) = points.split_at(length as usize);
+        points = rest;
+        match (contour.first(), contour.last()) {
             (Some(&first), Some(&last)) => {
-                let tag = |y| Point::new(number as f64, y);
-                Polyline::new(vec![first, tag(0.0), tag(1.0), last])
+                let tag = |sense| [number as f64, sense];
+                M::contour(&[first, tag(0.0), tag(1.0), last], layer)
             }
-            _ => Polyline::new(Vec::new()),
-        })
-        .collect();
-    let ordered = optimize_path_order(&tagged, strategy, dims);
+            _ => M::contour(&[], layer),
+        }
+    });
+    let tagged: Vec<M::Contour> = tagged.collect();
+    let ordered = M::order(&tagged, strategy, plate.size);
     ordered
         .iter()
-        .map(|contour| contour.points()[1])
-        .map(|tag| [tag.x as u32, tag.y as u32])
+        .map(|contour| M::points(contour)[1])
+        .map(|[number, sense]| [number as u32, sense as u32])
         .collect()
-}
-
-fn coordinates(contour: &Polyline) -> Vec<[f64; 2]> {
-    contour.points().iter().map(|p| [p.x, p.y]).collect()
 }
 
 fn same_bits(a: &[[f64; 2]], b: &[[f64; 2]]) -> bool {

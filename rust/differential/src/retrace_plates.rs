@@ -1,7 +1,7 @@
 //! Plates for the retrace call: those of `plates`, and others that lie at the edges of what
 //! its grid, its search and its samples decide.
 
-use harness::plates::{in_rows, rows as rows_of};
+use harness::plates::{falling_layers, in_rows, rows as rows_of};
 use harness::random::Random;
 use twillharbor::Size;
 
@@ -143,11 +143,11 @@ fn framed(draw: Draw, random: &mut Random) -> Plate {
 }
 
 fn of_contours(contours: &[Vec<[f64; 2]>], [width, height]: [u32; 2]) -> Plate {
-    Plate {
-        points: contours.concat().into_flattened(),
-        lengths: contours.iter().map(|contour| contour.len() as u32).collect(),
-        size: Size { width, height },
-    }
+    Plate::new(
+        contours.concat().into_flattened(),
+        contours.iter().map(|contour| contour.len() as u32).collect(),
+        Size { width, height },
+    )
 }
 
 /// Points within a few cells of one another, at the cells' edges and corners.
@@ -279,15 +279,33 @@ fn rows(random: &mut Random) -> Plate {
 pub enum Large {
     /// Contours, points of each and contours to a row; then the coordinates' scale.
     Rows([usize; 3], f64),
+    /// The same, unscaled, with layers for that many contours.
+    RowsInLayers([usize; 3], fn(usize) -> Vec<u32>),
     /// Contours and points of each.
     Random([usize; 2]),
 }
 
-pub const LARGE: [(Large, &str); 10] = [
+pub const LARGE: [(Large, &str); 14] = [
     (Large::Rows([200, 50, 10], 1.0), "200 contours of 50 points in rows"),
     (Large::Rows([200, 50, 10], 0.37), "the same, scaled"),
     (Large::Rows([4_000, 16, 40], 1.0), "4,000 contours of 16 points in rows"),
     (Large::Rows([4_000, 16, 40], 0.37), "the same, scaled"),
+    (
+        Large::RowsInLayers([200, 50, 10], falling_layers),
+        "200 contours of 50 points in rows, in sixteen layers",
+    ),
+    (
+        Large::RowsInLayers([200, 50, 10], alternating_layers),
+        "200 contours of 50 points in rows, in two layers in turn",
+    ),
+    (
+        Large::RowsInLayers([4_000, 16, 40], falling_layers),
+        "4,000 contours of 16 points in rows, in sixteen layers",
+    ),
+    (
+        Large::RowsInLayers([4_000, 16, 40], alternating_layers),
+        "4,000 contours of 16 points in rows, in two layers in turn",
+    ),
     (Large::Rows([4_096, 16, 64], 1.0), "4,096 contours of 16 points in rows"),
     (Large::Rows([16, 4_096, 2], 1.0), "16 contours of 4,096 points in rows"),
     (Large::Rows([1, 65_536, 1], 1.0), "one contour of 65,536 points"),
@@ -296,8 +314,17 @@ pub const LARGE: [(Large, &str); 10] = [
     (Large::Random([150, 1]), "150 random points, whose path has more than 1,048,576"),
 ];
 
+/// Layers 0 and 1 in turn. The path goes back to every other contour.
+fn alternating_layers(contours: usize) -> Vec<u32> {
+    [0, 1].into_iter().cycle().take(contours).collect()
+}
+
 pub fn large_plate(large: Large, random: &mut Random) -> Plate {
     let (points, lengths) = match large {
+        Large::RowsInLayers([contours, points, per_row], layers) => {
+            let plate = large_plate(Large::Rows([contours, points, per_row], 1.0), random);
+            return Plate { layers: layers(contours), ..plate };
+        }
         Large::Rows([contours, points, per_row], scale) => {
             let (coordinates, lengths) = rows_of(contours, points, per_row);
             let shift = if scale == 1.0 { 0.0 } else { 0.11 };
@@ -308,7 +335,7 @@ pub fn large_plate(large: Large, random: &mut Random) -> Plate {
             (coordinates.collect(), vec![points as u32; contours])
         }
     };
-    Plate { points, lengths, size: Size::default() }
+    Plate::new(points, lengths, Size::default())
 }
 
 #[cfg(test)]
@@ -327,7 +354,7 @@ mod tests {
             let mut points = 0;
             for _ in 0..300 {
                 let plate = plate(kind, &mut random);
-                assert_eq!(checked(&plate.points, &plate.lengths), Ok(()), "{name}");
+                assert_eq!(checked(&plate), Ok(()), "{name}");
                 points += plate.points.len() / 2;
             }
             assert!(points > 1_000, "{name}: {points} points");

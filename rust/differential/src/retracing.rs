@@ -1,4 +1,4 @@
-//! The retrace call against the reference's `join_retrace`.
+//! The retrace call against the reference's `join_retrace`, with layers.
 //!
 //! Every call is lent slices between margins of random bits, and all bits are compared
 //! afterwards: of the answer, of inputs and outputs, and of both work slices after every
@@ -13,11 +13,12 @@ use twillharbor::{PairKind, c};
 
 use crate::checker::{self, Claim, Counts};
 use crate::handed::Handed;
+use crate::layers::{Met, in_seeded_layers};
 use crate::lent::Lent;
 use crate::plates::{Plate, damaged_somehow};
 use crate::reference::retrace;
 use crate::retrace_plates::{KINDS, Kind, LARGE, large_plate, plate};
-use crate::rule::{self, Retrace};
+use crate::rule::{self, NUMBERS, Retrace};
 use crate::run::{self, Plan};
 
 /// How many damaged copies of each plate are handed over.
@@ -30,15 +31,19 @@ const MOST: usize = 1_048_576;
 /// How many calls were made, by the number that is due, and what their results hold.
 #[derive(Debug, Default)]
 struct Tally {
-    calls: [AtomicU64; 7],
+    calls: [AtomicU64; CALL_NUMBERS],
     /// Path points, cuts, back-steps and jumps.
     counts: [AtomicU64; 4],
+    met: Met,
 }
+
+/// The call does not give the last of the numbers, 7.
+const CALL_NUMBERS: usize = NUMBERS.len() - 1;
 
 impl Tally {
     fn count(&self, due: &[u32; 6]) {
         let [number, _, counts @ ..] = due;
-        self.calls[*number as usize].fetch_add(1, Ordering::Relaxed);
+        self.calls[rule::place_of(*number)].fetch_add(1, Ordering::Relaxed);
         for (sum, &count) in self.counts.iter().zip(counts) {
             sum.fetch_add(count.into(), Ordering::Relaxed);
         }
@@ -47,8 +52,11 @@ impl Tally {
     fn print(&self) {
         let calls = self.calls.each_ref().map(|n| n.load(Ordering::Relaxed));
         println!("calls, by the number that is due:");
-        println!("{}", [0, 1, 2, 3, 4, 5, 6].map(|number| format!("{number:>11}")).concat());
-        println!("{}", calls.map(|calls| format!("{calls:>11}")).concat());
+        let row = |cells: &[String]| {
+            println!("{}", cells.iter().map(|cell| format!("{cell:>11}")).collect::<String>());
+        };
+        row(&NUMBERS.map(|number| number.to_string())[..CALL_NUMBERS]);
+        row(&calls.map(|calls| calls.to_string()));
         let counts = self.counts.each_ref().map(|n| n.load(Ordering::Relaxed));
         let [points, cuts, back_steps, jumps] = counts;
         println!(
@@ -71,13 +79,14 @@ pub fn run(plan: Plan) -> bool {
     if !same {
         return false;
     }
+    let of_kinds = plan.pairs;
     let plan = Plan { pairs: LARGE.len() as u64, ..plan };
     println!("large plates: {}, seed {}", plan.pairs, plan.seed);
     let same = run::run_in_chunks(plan, 1, &LARGE, |large, random| {
         sound(&large_plate(large, random), Inside, MOST, &tally, 2, random)
     });
     tally.print();
-    same
+    tally.met.print(of_kinds) && same
 }
 
 /// Compares one plate of a run: the kind by its number, and the plate's own seed.
@@ -92,7 +101,7 @@ pub fn run_one(kind: u64, seed: u64) -> Result<bool, String> {
 
 fn compare(kind: Kind, seed: u64, tally: &Tally) -> Result<(), String> {
     let random = &mut Random::new(seed);
-    let plate = plate(kind, random);
+    let plate = in_seeded_layers(plate(kind, random), seed);
     let large = plate.points.len() > 1_000 || plate.lengths.len() > 50;
     let cap = cap(&plate, random);
     if large {
@@ -104,7 +113,7 @@ fn compare(kind: Kind, seed: u64, tally: &Tally) -> Result<(), String> {
     }
     for _ in 0..COPIES {
         let copy = damaged_somehow(&plate, random);
-        if !large || rule::checked(&copy.points, &copy.lengths).is_err() {
+        if !large || rule::checked(&copy).is_err() {
             refused(&copy, tally, random)?;
         }
     }
@@ -230,7 +239,11 @@ fn handed<'a>(
     tally: &'a Tally,
     random: &mut Random,
 ) -> Result<Case<'a>, String> {
-    let due = retrace(&plate.points, &plate.lengths, plate.size, strategy, cap);
+    let due = retrace(plate, strategy, cap);
+    if let Ok(due) = &due {
+        let held = due.as_ref().map(|retrace| retrace.held);
+        tally.met.plate(plate, strategy, held.map_err(|&refused| refused));
+    }
     Case::new(plate, strategy, tally, due, random)
 }
 
@@ -264,6 +277,9 @@ impl Case<'_> {
         let (due, written) =
             rule::retrace_outcome(result, &self.plate.lengths, slices.room(), work, distances);
         self.tally.count(&due);
+        if due[0] == rule::BAD_LAYER {
+            self.tally.met.lent(self.plate, distances, slices.room());
+        }
         let name =
             format!("call, lent slices of {path} and {marks}, and work of {work} and {distances}");
         let mut path = Lent::random(path, random);
@@ -273,6 +289,7 @@ impl Case<'_> {
         let result = c::retrace(
             self.points.slice(),
             self.lengths.slice(),
+            self.layers.slice(),
             self.plate.size.width,
             self.plate.size.height,
             self.strategy == Inside,
@@ -311,6 +328,7 @@ impl Case<'_> {
         checker::check(&Claim {
             points: &self.plate.points,
             lengths: &self.plate.lengths,
+            layers: &self.plate.layers,
             path: &path[..counts.points as usize],
             marks: &marks[..counts.points as usize],
             counts,
@@ -321,15 +339,18 @@ impl Case<'_> {
     /// does not tell what it answers. It comes last: there a write beyond a slice would not
     /// show.
     fn wrapper(&self) -> Result<(), String> {
-        const NAME: &str = "safe interface";
         if let Ok(due) = &self.due
             && !due.whole
             && due.marks.len() < MOST
         {
             return Ok(());
         }
-        let (points, lengths) = (self.points.slice(), self.lengths.slice());
-        let outcome = twillharbor::retrace(points, lengths, self.plate.size, self.strategy);
+        self.plates().into_iter().try_for_each(|plate| self.wrapped(plate))
+    }
+
+    fn wrapped(&self, plate: twillharbor::Plate) -> Result<(), String> {
+        const NAME: &str = "safe interface";
+        let outcome = plate.retrace(self.plate.size, self.strategy);
         let refused = outcome.as_ref().err().map(|refusal| (refusal.number(), refusal.place()));
         let due = match &self.due {
             Ok(due) if due.whole => None,

@@ -1,32 +1,69 @@
-//! Document 01's refusals, start and order once more, written from its text and apart from
-//! the reference. The refusals are not the reference's: it refuses nothing.
+//! Document 01's refusals, start and order once more, with document 02's layers, written from
+//! their text and apart from the reference. The refusals are not the reference's: it refuses
+//! nothing.
 
 pub mod retrace;
 
-use std::cmp::Reverse;
+use twillharbor::StartPointStrategy;
 
-use twillharbor::{Size, StartPointStrategy};
+use crate::plates::Plate;
 
 /// The number and the place of a refusal.
 pub type Refused = (u32, u32);
 
-/// Refusals 1 to 4.
-pub fn checked(points: &[f64], lengths: &[u32]) -> Result<(), Refused> {
-    const LIMIT: u64 = 1_000_000.0_f64.to_bits();
+/// The number of the refusal for layers.
+pub const BAD_LAYER: u32 = 13;
+
+/// The numbers that the calls give, 0 for a result and then in the order in which they are
+/// tested.
+pub const NUMBERS: [u32; 9] = [0, 1, 2, 3, BAD_LAYER, 4, 5, 6, 7];
+
+/// Where a number stands among these.
+pub fn place_of(number: u32) -> usize {
+    NUMBERS.iter().position(|&known| known == number).expect("a call gives it")
+}
+
+/// Refusals 1 to 3, then 13, then 4.
+pub fn checked(plate: &Plate) -> Result<(), Refused> {
+    counted(&plate.points, &plate.lengths)?;
+    layered(plate.lengths.len(), &plate.layers)?;
+    on_plate(&plate.points)
+}
+
+/// Refusals 1 to 3.
+pub fn counted(points: &[f64], lengths: &[u32]) -> Result<(), Refused> {
     let sum: u128 = lengths.iter().map(|&length| u128::from(length)).sum();
-    // Without its sign bit a NaN or an infinity is above every number's bits.
-    let off = |c: &f64| c.to_bits() & (u64::MAX >> 1) > LIMIT;
     if lengths.len() > 4_096 {
         Err((1, 0))
     } else if sum > 65_536 {
         Err((2, 0))
     } else if points.len() as u128 != 2 * sum {
         Err((3, 0))
-    } else if let Some(place) = points.iter().position(off) {
-        Err((4, place as u32))
     } else {
         Ok(())
     }
+}
+
+/// Layers are from 0 to this.
+const HIGHEST_LAYER: u32 = 15;
+
+/// Refusal 13.
+pub fn layered(contours: usize, layers: &[u32]) -> Result<(), Refused> {
+    if layers.len() != contours {
+        Err((BAD_LAYER, contours as u32))
+    } else if let Some(place) = layers.iter().position(|&layer| layer > HIGHEST_LAYER) {
+        Err((BAD_LAYER, place as u32))
+    } else {
+        Ok(())
+    }
+}
+
+/// Refusal 4.
+pub fn on_plate(points: &[f64]) -> Result<(), Refused> {
+    const LIMIT: u64 = 1_000_000.0_f64.to_bits();
+    // Without its sign bit a NaN or an infinity is above every number's bits.
+    let off = |c: &f64| c.to_bits() & (u64::MAX >> 1) > LIMIT;
+    points.iter().position(off).map_or(Ok(()), |place| Err((4, place as u32)))
 }
 
 /// C of the order call.
@@ -73,6 +110,7 @@ pub struct Retrace {
     pub marks: Vec<[u32; 2]>,
     /// Otherwise the path has more points than these.
     pub whole: bool,
+    pub held: Held,
 }
 
 /// Refusals 5 and 6 of the retrace call, lent work slices of these lengths: the answer's
@@ -107,22 +145,43 @@ pub fn retrace_outcome(
     }
 }
 
+/// Whether at some choice a contour of a higher layer than the lowest that waits lay nearer than
+/// the chosen one, and whether one lay as near. At the start with Outside, farther and as far.
+#[derive(Debug, Clone, Copy, PartialEq, Eq, Default)]
+pub struct Held {
+    pub nearer: bool,
+    pub as_near: bool,
+}
+
+impl Held {
+    /// Of the distances to choose by, with their layers, `chosen` was taken.
+    fn look(&mut self, chosen: (u32, u64), all: impl Iterator<Item = (u32, u64)>) {
+        let (lowest, distance) = chosen;
+        let higher = all.filter(|&(layer, _)| layer > lowest).map(|(_, distance)| distance);
+        if let Some(least) = higher.min() {
+            self.nearer |= least < distance;
+            self.as_near |= least == distance;
+        }
+    }
+}
+
 /// A contour that is not skipped.
 #[derive(Debug, Clone, Copy)]
 struct Contour {
     number: u32,
+    layer: u32,
     first: [f64; 2],
     last: [f64; 2],
 }
 
-fn contours(points: &[f64], lengths: &[u32]) -> Vec<Contour> {
-    let (points, _) = points.as_chunks();
+fn contours(plate: &Plate) -> Vec<Contour> {
+    let (points, _) = plate.points.as_chunks();
     let mut from = 0;
     let mut contours = Vec::new();
-    for (number, &length) in (0..).zip(lengths) {
+    for ((number, &length), &layer) in (0..).zip(&plate.lengths).zip(&plate.layers) {
         if length > 0 {
             let to = from + length as usize;
-            contours.push(Contour { number, first: points[from], last: points[to - 1] });
+            contours.push(Contour { number, layer, first: points[from], last: points[to - 1] });
             from = to;
         }
     }
@@ -138,49 +197,63 @@ fn squared([ax, ay]: [f64; 2], [bx, by]: [f64; 2]) -> u64 {
     squared.to_bits()
 }
 
-/// The contour number and 1 if it is reversed, else 0; none where no contour holds a point.
-pub fn start(
-    points: &[f64],
-    lengths: &[u32],
-    size: Size,
-    strategy: StartPointStrategy,
-) -> Option<[u32; 2]> {
-    let centre = [f64::from(size.width) / 2.0, f64::from(size.height) / 2.0];
-    let ends = contours(points, lengths).into_iter().flat_map(|contour| {
-        let Contour { number, first, last } = contour;
-        [(squared(centre, first), [number, 0]), (squared(centre, last), [number, 1])]
-    });
-    // What is as far away as an earlier end does not win: the earlier end is the lesser.
-    let best = match strategy {
-        StartPointStrategy::Outside => ends.min_by_key(|&(squared, end)| (Reverse(squared), end)),
-        StartPointStrategy::Inside => ends.min_by_key(|&(squared, end)| (squared, end)),
+/// Of each end: its contour's layer, what it is chosen by, the contour's number and 1 if it is
+/// the last point, else 0. The least is the start.
+fn ends(plate: &Plate, strategy: StartPointStrategy) -> Vec<(u32, u64, [u32; 2])> {
+    let centre = [plate.size.width, plate.size.height].map(|side| f64::from(side) / 2.0);
+    let distance = |end| match strategy {
+        StartPointStrategy::Inside => squared(centre, end),
+        // Of the complements the least is that of the greatest.
+        StartPointStrategy::Outside => !squared(centre, end),
     };
-    best.map(|(_, end)| end)
+    let ends = contours(plate).into_iter().flat_map(|contour| {
+        let Contour { number, layer, first, last } = contour;
+        [(layer, distance(first), [number, 0]), (layer, distance(last), [number, 1])]
+    });
+    ends.collect()
 }
 
-/// Each entry's contour number and 1 if it is reversed, else 0.
-pub fn order(
-    points: &[f64],
-    lengths: &[u32],
-    size: Size,
-    strategy: StartPointStrategy,
-) -> Vec<[u32; 2]> {
-    let mut waiting = contours(points, lengths);
-    let mut entries = Vec::new();
-    let mut next = start(points, lengths, size, strategy);
+/// The contour number and 1 if it is reversed, else 0; none where no contour holds a point.
+pub fn start(plate: &Plate, strategy: StartPointStrategy) -> Option<[u32; 2]> {
+    // What is as far away as an earlier end does not win: the earlier end is the lesser.
+    ends(plate, strategy).into_iter().min().map(|(_, _, end)| end)
+}
+
+/// What the layers did to the choice of the start.
+pub fn held_at_start(plate: &Plate, strategy: StartPointStrategy) -> Held {
+    let mut held = Held::default();
+    let ends: Vec<(u32, u64)> =
+        ends(plate, strategy).into_iter().map(|(layer, distance, _)| (layer, distance)).collect();
+    if let Some(&chosen) = ends.iter().min() {
+        held.look(chosen, ends.into_iter());
+    }
+    held
+}
+
+/// Each entry's contour number and 1 if it is reversed, else 0; and what the layers did to the
+/// choices after the start.
+pub fn order(plate: &Plate, strategy: StartPointStrategy) -> (Vec<[u32; 2]>, Held) {
+    let mut waiting = contours(plate);
+    let (mut entries, mut held) = (Vec::new(), Held::default());
+    let mut next = start(plate, strategy);
     while let Some([number, reversed]) = next {
         entries.push([number, reversed]);
         let at = waiting.iter().position(|c| c.number == number).expect("it was waiting");
         let contour = waiting.remove(at);
         let end = if reversed == 1 { contour.first } else { contour.last };
-        let nearest = waiting.iter().map(|contour| {
+        let near = waiting.iter().map(|contour| {
             let forward = squared(end, contour.first);
             let reverse = squared(end, contour.last);
-            (forward.min(reverse), contour.number, u32::from(forward > reverse))
+            let sense = u32::from(forward > reverse);
+            (contour.layer, forward.min(reverse), [contour.number, sense])
         });
-        next = nearest.min().map(|(_, number, reversed)| [number, reversed]);
+        let near: Vec<(u32, u64, [u32; 2])> = near.collect();
+        next = near.iter().min().map(|&(layer, distance, entry)| {
+            held.look((layer, distance), near.iter().map(|&(layer, near, _)| (layer, near)));
+            entry
+        });
     }
-    entries
+    (entries, held)
 }
 
 /// The entries' points, each contour's in its sense.
@@ -206,9 +279,11 @@ pub fn straight(points: &[f64], lengths: &[u32], order: &[[u32; 2]]) -> Vec<[f64
 #[cfg(test)]
 mod tests {
     use super::{
-        Refused, Retrace, checked, order_room, outcome, retrace_outcome, retrace_room,
-        straight_room,
+        Held, Plate, Refused, Retrace, checked, held_at_start, order, order_room, outcome,
+        retrace_outcome, retrace_room, straight_room,
     };
+    use twillharbor::Size;
+    use twillharbor::StartPointStrategy::{Inside, Outside};
 
     type Row<'a> = (&'a [f64], &'a [u32], Result<(), Refused>);
 
@@ -235,8 +310,62 @@ mod tests {
             (&[0.0, 0.0, -f64::NAN, 0.0], &[2], Err((4, 2))),
         ];
         for (place, (points, lengths, due)) in rows.into_iter().enumerate() {
-            assert_eq!(checked(points, lengths), due, "row {place}");
+            assert_eq!(
+                checked(&plate(points, lengths, &vec![0; lengths.len()])),
+                due,
+                "row {place}"
+            );
         }
+    }
+
+    fn plate(points: &[f64], lengths: &[u32], layers: &[u32]) -> Plate {
+        Plate {
+            points: points.to_vec(),
+            lengths: lengths.to_vec(),
+            layers: layers.to_vec(),
+            size: Size::default(),
+        }
+    }
+
+    #[test]
+    fn a_bad_layer_comes_after_3_and_before_4() {
+        type Row<'a> = (&'a [f64], &'a [u32], &'a [u32], Result<(), Refused>);
+        let (many, nan) = (vec![0; 4_097], f64::NAN);
+        let rows: [Row; 14] = [
+            (&[], &[], &[], Ok(())),
+            (&[1.0, 1.0], &[0, 1, 0], &[15, 0, 15], Ok(())),
+            (&[1.0, 1.0], &[0, 1, 0], &[15, 0], Err((13, 3))),
+            (&[1.0, 1.0], &[0, 1, 0], &[15, 0, 15, 0], Err((13, 3))),
+            (&[1.0, 1.0], &[0, 1, 0], &[], Err((13, 3))),
+            (&[], &[], &[0], Err((13, 0))),
+            (&[1.0, 1.0], &[0, 1, 0], &[15, 16, u32::MAX], Err((13, 1))),
+            (&[1.0, 1.0], &[0, 1, 0], &[1 << 31, 0, 0], Err((13, 0))),
+            (&[1.0, 1.0], &[0, 1, 0], &[16, 0], Err((13, 3))),
+            (&[nan, 1.0], &[0, 1, 0], &[0, 0, 17], Err((13, 2))),
+            (&[nan, 1.0], &[0, 1, 0], &[0, 0, 15], Err((4, 0))),
+            (&[nan], &[0, 1, 0], &[0, 0, 17], Err((3, 0))),
+            (&[nan], &[65_537], &[16], Err((2, 0))),
+            (&[nan], &many, &[], Err((1, 0))),
+        ];
+        for (place, (points, lengths, layers, due)) in rows.into_iter().enumerate() {
+            assert_eq!(checked(&plate(points, lengths, layers)), due, "row {place}");
+        }
+    }
+
+    #[test]
+    fn what_layers_do_to_a_choice_is_seen() {
+        // (0,0) | (1,0) | (2,0) | (-2,0), from the first.
+        let held = |layers: &[u32]| {
+            let plate = plate(&[0.0, 0.0, 1.0, 0.0, 2.0, 0.0, -2.0, 0.0], &[1; 4], layers);
+            let (_, next) = order(&plate, Inside);
+            [held_at_start(&plate, Inside), held_at_start(&plate, Outside), next]
+                .map(|Held { nearer, as_near }| [nearer, as_near])
+        };
+        assert_eq!(held(&[0; 4]), [[false; 2]; 3]);
+        assert_eq!(held(&[0, 1, 2, 3]), [[false, false], [true, false], [false, false]]);
+        assert_eq!(held(&[0, 1, 0, 0]), [[false, false], [false, false], [true, false]]);
+        assert_eq!(held(&[0, 0, 0, 1]), [[false, false], [false, true], [false, false]]);
+        assert_eq!(held(&[1, 0, 0, 0])[0], [true, false]);
     }
 
     #[test]
@@ -267,7 +396,8 @@ mod tests {
     fn both_works_come_before_room() {
         // Plate E: two cuts, two steps back and a jump.
         let marks = vec![[0, 0], [1, 0], [1, 1], [2, 1], [2, 0], [3, 3]];
-        let e = Retrace { path: vec![[0.0; 2]; 6], marks, whole: true };
+        let held = Held::default();
+        let e = Retrace { path: vec![[0.0; 2]; 6], marks, whole: true, held };
         let outcome = |e: &Retrace, room, work, distances| {
             retrace_outcome(Ok(e), &[3, 0, 1], room, work, distances)
         };
@@ -279,7 +409,7 @@ mod tests {
         assert_eq!(outcome(&e, 5, enough + 4, 2), ([5, 0, 0, 0, 0, 0], 0));
         let beginning = Retrace { whole: false, ..e };
         assert_eq!(outcome(&beginning, 6, enough + 6, 3), ([6, 6, 0, 0, 0, 0], 6));
-        let blank = Retrace { path: vec![], marks: vec![], whole: true };
+        let blank = Retrace { path: vec![], marks: vec![], whole: true, held };
         assert_eq!(retrace_outcome(Ok(&blank), &[0], 0, 16_392, 1), ([0; 6], 0));
         assert_eq!(retrace_outcome(Err((4, 7)), &[1], 0, 0, 0), ([4, 7, 0, 0, 0, 0], 0));
     }

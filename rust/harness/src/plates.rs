@@ -9,6 +9,14 @@ pub fn rows(contours: usize, points: usize, per_row: usize) -> (Vec<f64>, Vec<u3
     (coordinates.collect(), vec![points as u32; contours])
 }
 
+/// Layers for that many contours: the sixteen one after the other, each for as many contours as
+/// the others or one less, from the highest to the lowest.
+#[must_use]
+pub fn falling_layers(contours: usize) -> Vec<u32> {
+    const LAYERS: usize = 16;
+    (0..contours).map(|number| (LAYERS - 1 - LAYERS * number / contours) as u32).collect()
+}
+
 /// The points of one contour there: from (0,0) row by row, points 1 apart along x, contours
 /// 5 apart end to start, rows 10 apart.
 pub fn in_rows(number: usize, points: usize, per_row: usize) -> impl Iterator<Item = [f64; 2]> {
@@ -36,7 +44,7 @@ pub fn polylines(points: &[f64], lengths: &[u32]) -> Vec<Polyline> {
 
 #[cfg(test)]
 mod tests {
-    use super::{polylines, rows};
+    use super::{falling_layers, polylines, rows};
 
     #[test]
     fn rows_lie_as_ticket_10_says() {
@@ -45,6 +53,14 @@ mod tests {
         let firsts: Vec<[f64; 2]> = points.chunks(6).map(|c| [c[0], c[1]]).collect();
         assert_eq!(firsts, [[0.0, 0.0], [7.0, 0.0], [0.0, 10.0], [7.0, 10.0], [0.0, 20.0]]);
         assert_eq!(points[..6], [0.0, 0.0, 1.0, 0.0, 2.0, 0.0]);
+    }
+
+    #[test]
+    fn layers_fall() {
+        let falling = falling_layers(32);
+        assert_eq!(falling[..5], [15, 15, 14, 14, 13]);
+        assert_eq!(falling[29..], [1, 0, 0]);
+        assert!(falling_layers(200).is_sorted_by(|a, b| a >= b));
     }
 
     #[test]

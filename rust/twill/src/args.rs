@@ -2,7 +2,7 @@
 
 use crate::number;
 use std::path::PathBuf;
-use twillharbor::{Point, StartPointStrategy};
+use twillharbor::{HIGHEST_LAYER, Point, StartPointStrategy};
 
 /// What the tool was asked to do.
 #[derive(Debug, PartialEq)]
@@ -22,6 +22,8 @@ pub struct PlateRequest {
     pub width: Option<u32>,
     pub height: Option<u32>,
     pub strategy: Option<StartPointStrategy>,
+    /// The layer whose contours alone are taken.
+    pub layer: Option<u32>,
     pub format: Format,
     pub output: Option<PathBuf>,
 }
@@ -35,6 +37,13 @@ pub enum Command {
     Check,
     Step,
     View,
+}
+
+impl Command {
+    /// Whether it writes a result, in one of the formats.
+    const fn has_formats(self) -> bool {
+        matches!(self, Self::Retrace | Self::Straight | Self::Order | Self::Start)
+    }
 }
 
 #[derive(Debug, Clone, PartialEq, Eq)]
@@ -136,6 +145,7 @@ fn plate(name: &str, command: Command, words: &[String]) -> Result<PlateRequest,
         width: options.width,
         height: options.height,
         strategy: options.strategy,
+        layer: options.layer,
         format: options.format.unwrap_or_default(),
         output: options.output,
     })
@@ -146,6 +156,7 @@ struct Options {
     width: Option<u32>,
     height: Option<u32>,
     strategy: Option<StartPointStrategy>,
+    layer: Option<u32>,
     format: Option<Format>,
     output: Option<PathBuf>,
 }
@@ -163,10 +174,7 @@ impl Options {
             Some((option, value)) if word.starts_with("--") => (option, Some(value)),
             _ => (word, None),
         };
-        let has_formats = matches!(
-            command,
-            Command::Retrace | Command::Straight | Command::Order | Command::Start
-        );
+        let has_formats = command.has_formats();
         let is_twice = match option {
             "--inside" | "--outside" if attached.is_some() => {
                 return Err(format!("{option} takes no value"));
@@ -174,9 +182,13 @@ impl Options {
             "--inside" => self.strategy.replace(StartPointStrategy::Inside).is_some(),
             "--outside" => self.strategy.replace(StartPointStrategy::Outside).is_some(),
             "--width" | "--height" => {
-                let size = size(option, value(option, attached, rest)?)?;
+                let size = whole(option, value(option, attached, rest)?, u32::MAX)?;
                 let side = if option == "--width" { &mut self.width } else { &mut self.height };
                 side.replace(size).is_some()
+            }
+            "--layer" => {
+                let layer = whole(option, value(option, attached, rest)?, HIGHEST_LAYER)?;
+                self.layer.replace(layer).is_some()
             }
             "--format" if has_formats => {
                 self.format.replace(format(value(option, attached, rest)?)?).is_some()
@@ -204,11 +216,9 @@ fn value<'a>(
     }
 }
 
-fn size(option: &str, word: &str) -> Result<u32, String> {
-    let is_digits = word.bytes().all(|b| b.is_ascii_digit());
-    word.parse().ok().filter(|_| is_digits).ok_or_else(|| {
-        format!("{option} takes a whole number from 0 to {}, not `{word}`", u32::MAX)
-    })
+fn whole(option: &str, word: &str, most: u32) -> Result<u32, String> {
+    let number = number::whole(word).filter(|&number| number <= most);
+    number.ok_or_else(|| format!("{option} takes a whole number from 0 to {most}, not `{word}`"))
 }
 
 fn format(word: &str) -> Result<Format, String> {
@@ -238,12 +248,13 @@ mod tests {
             width: Some(8),
             height: Some(2),
             strategy: Some(StartPointStrategy::Inside),
+            layer: Some(15),
             format: Format::PlateMarks,
             output: Some("out".into()),
         };
         for line in [
-            "retrace a.svg --width 8 --height 2 --inside --format plate-marks -o out",
-            "retrace --width=8 --height=2 --inside --format=plate-marks --output=out -- a.svg",
+            "retrace a.svg --width 8 --height 2 --inside --layer 15 --format plate-marks -o out",
+            "retrace --width=8 --height=2 --inside --layer=15 --format=plate-marks --output=out -- a.svg",
         ] {
             assert_eq!(parsed(line).as_ref(), Ok(&Request::Plate(expected.clone())), "{line}");
         }
@@ -279,6 +290,10 @@ mod tests {
             ("order a --width", "--width takes a value"),
             ("order a --width 1.5", "--width takes a whole number from 0 to 4294967295, not `1.5`"),
             ("order a --width +1", "--width takes a whole number from 0 to 4294967295, not `+1`"),
+            ("step a --layer 16", "--layer takes a whole number from 0 to 15, not `16`"),
+            ("view a --layer=-1", "--layer takes a whole number from 0 to 15, not `-1`"),
+            ("check a --layer", "--layer takes a value"),
+            ("start a --layer 1 --layer 1", "--layer is given twice, or against another option"),
             ("order a --inside --outside", "--outside is given twice, or against another option"),
             ("order a --inside=1", "--inside takes no value"),
             ("order a --format xml", "--format is text, json, svg or plate-marks, not `xml`"),

@@ -8,6 +8,8 @@ use twillharbor::{Mark, MarkedPath, Pair, PairKind};
 /// point i, so pairs are numbered from 1.
 pub struct Joined {
     pub plate: Handed,
+    /// Whether the plate has layers.
+    pub is_layered: bool,
     pub path: MarkedPath,
     pairs: Vec<Pair>,
     /// The vertex of each path point: a start's or jump's is the one named, a cut's the end of
@@ -55,7 +57,7 @@ impl Joined {
                 PairKind::Cut { .. } | PairKind::Jump { .. } => before + 1,
             });
         }
-        Self { plate, path, pairs, visited, grooves, vertices }
+        Self { is_layered: plate.is_layered(), plate, path, pairs, visited, grooves, vertices }
     }
 
     /// How many pairs there are; their numbers are from 1 to this.
@@ -87,6 +89,14 @@ impl Joined {
     /// The contour of a vertex of the plate and its number within it.
     pub fn locate(&self, vertex: u32) -> (usize, usize) {
         self.vertices[vertex as usize]
+    }
+
+    /// The layer of the contour whose groove a pair is or goes back over; a jump's is that of the
+    /// contour that it lands on, and so is that of number 0, the start.
+    pub fn layer(&self, number: usize) -> u32 {
+        let groove = if number == 0 { 0 } else { self.groove(number) };
+        let (contour, _) = self.locate(self.vertex(groove));
+        self.plate.layers[contour]
     }
 
     /// All about a pair, by its number.

@@ -17,6 +17,12 @@ pub fn parse(text: &str) -> Option<f64> {
     Some(if negative { -magnitude } else { magnitude })
 }
 
+/// A whole number, of digits alone.
+pub fn whole(text: &str) -> Option<u32> {
+    let is_digits = text.bytes().all(|b| b.is_ascii_digit());
+    text.parse().ok().filter(|_| is_digits)
+}
+
 /// The digits after `0x`: hexadecimal, with at most one point, then perhaps `p` and a decimal
 /// power of two.
 fn hexadecimal(text: &str) -> Option<f64> {
@@ -101,7 +107,7 @@ pub fn json(value: f64) -> String {
 
 #[cfg(test)]
 mod tests {
-    use super::{json, parse, show};
+    use super::{json, parse, show, whole};
 
     #[test]
     fn hexadecimal_numbers_are_the_floats_that_they_name() {
@@ -141,6 +147,16 @@ mod tests {
         }
         assert!(parse("NaN").is_some_and(f64::is_nan));
         assert_eq!(parse("-inf"), Some(f64::NEG_INFINITY));
+    }
+
+    #[test]
+    fn whole_numbers_are_digits() {
+        for (text, number) in [("0", 0), ("007", 7), ("4294967295", u32::MAX)] {
+            assert_eq!(whole(text), Some(number), "{text}");
+        }
+        for text in ["", "+1", "-1", "-0", " 1", "1.0", "0x1", "\u{661}", "4294967296"] {
+            assert_eq!(whole(text), None, "{text}");
+        }
     }
 
     #[test]

@@ -1,9 +1,11 @@
 //! A plate as it was read from a file.
 
-use crate::number;
+use crate::{number, words};
+use std::collections::BTreeMap;
 use std::fmt;
 use std::path::Path;
-use twillharbor::{Point, Size, StartPointStrategy};
+use std::rc::Rc;
+use twillharbor::{HIGHEST_LAYER, Point, Size, StartPointStrategy};
 
 /// Where something stands in a file; both count from 1, columns in characters.
 #[derive(Debug, Clone, Copy, PartialEq, Eq)]
@@ -51,6 +53,22 @@ impl Remark {
     }
 }
 
+/// A contour's layer. The default is that of a contour which the file gives none.
+#[derive(Debug, Clone, Default, PartialEq, Eq)]
+pub struct Layer {
+    pub number: u32,
+    /// The byte of the text at which the layer is given.
+    pub byte: Option<usize>,
+    /// The name of the group that is the layer.
+    pub label: Option<Rc<str>>,
+}
+
+impl Layer {
+    pub const fn new(number: u32, byte: usize) -> Self {
+        Self { number, byte: Some(byte), label: None }
+    }
+}
+
 /// What the library is handed, what the file says of the plate besides, and where each point
 /// stands in the file.
 #[derive(Debug, Clone, Default, PartialEq)]
@@ -59,6 +77,12 @@ pub struct Plate {
     pub points: Vec<f64>,
     /// The contours' numbers of points.
     pub lengths: Vec<u32>,
+    /// The contours' layers: as many, unless the file lists them by themselves.
+    pub layers: Vec<Layer>,
+    /// The byte of the text at which the file lists them by themselves, if it does.
+    pub layers_byte: Option<usize>,
+    /// The layer of the contours that are begun from here on.
+    pub layer: Layer,
     /// For each point the byte of the text at which it stands.
     pub bytes: Vec<usize>,
     /// The width and height that the file gives, if it does.
@@ -66,8 +90,10 @@ pub struct Plate {
     pub height: Option<u32>,
     /// The strategy that the file gives, if it does.
     pub strategy: Option<StartPointStrategy>,
-    /// What the user is to be told of, though the file was read.
+    /// What the user is to be told of the size, though the file was read.
     pub notes: Vec<Remark>,
+    /// What the user is to be told of the layers.
+    pub layer_notes: Vec<Remark>,
 }
 
 impl Plate {
@@ -81,6 +107,35 @@ impl Plate {
     /// Begins a contour.
     pub fn begin(&mut self) {
         self.lengths.push(0);
+        self.layers.push(self.layer.clone());
+    }
+
+    /// Whether the library takes the layers: as many as the contours, and none above the highest.
+    pub fn has_sound_layers(&self) -> bool {
+        let is_sound = |layer: &Layer| layer.number <= HIGHEST_LAYER;
+        self.layers.len() == self.lengths.len() && self.layers.iter().all(is_sound)
+    }
+
+    /// Empties the contours of all layers but one, so that the numbers of its contours stay.
+    /// Where the layers are not as many as the contours it is left to the library, which
+    /// refuses that.
+    pub fn keep_layer(&mut self, number: u32) {
+        if self.layers.len() != self.lengths.len() {
+            return;
+        }
+        let (points, _) = self.points.as_chunks::<2>();
+        let (mut kept, mut bytes, mut first) = (Vec::new(), Vec::new(), 0);
+        for (length, layer) in self.lengths.iter_mut().zip(&self.layers) {
+            let held = first..first + *length as usize;
+            first = held.end;
+            if layer.number == number {
+                kept.extend(points[held.clone()].as_flattened());
+                bytes.extend(&self.bytes[held]);
+            } else {
+                *length = 0;
+            }
+        }
+        (self.points, self.bytes) = (kept, bytes);
     }
 }
 
@@ -89,11 +144,44 @@ impl Plate {
 pub struct Handed {
     pub points: Vec<f64>,
     pub lengths: Vec<u32>,
+    pub layers: Vec<u32>,
     pub size: Size,
     pub strategy: StartPointStrategy,
 }
 
+/// How much of a plate is of one layer.
+#[derive(Debug, Clone, Copy, Default, PartialEq, Eq)]
+pub struct LayerCounts {
+    /// The contours that hold a point.
+    pub contours: usize,
+    /// Their segments.
+    pub cuts: usize,
+}
+
 impl Handed {
+    /// What the calls take.
+    pub fn plate(&self) -> twillharbor::Plate<'_> {
+        twillharbor::Plate::with_layers(&self.points, &self.lengths, &self.layers)
+    }
+
+    /// Whether a contour is of another layer than 0. Where none is, nothing is told of layers.
+    pub fn is_layered(&self) -> bool {
+        self.layers.iter().any(|&layer| layer != 0)
+    }
+
+    /// The layers of the contours that hold a point, in order.
+    pub fn layer_counts(&self) -> BTreeMap<u32, LayerCounts> {
+        let mut layers: BTreeMap<u32, LayerCounts> = BTreeMap::new();
+        for (&length, &layer) in self.lengths.iter().zip(&self.layers) {
+            if length > 0 {
+                let counts = layers.entry(layer).or_default();
+                counts.contours += 1;
+                counts.cuts += length as usize - 1;
+            }
+        }
+        layers
+    }
+
     /// For each vertex of the plate the contour that it is of and its number within it.
     pub fn vertices(&self) -> impl Iterator<Item = (usize, usize)> {
         let lengths = self.lengths.iter().enumerate();
@@ -107,9 +195,14 @@ impl Handed {
         self.lengths.iter().map(move |&length| points.by_ref().take(length as usize).collect())
     }
 
-    /// `8 by 2, outside`.
+    /// `8 by 2, outside`, and for a plate in layers `8 by 2, outside, layers 0 and 3`.
     pub fn terms(&self) -> String {
-        format!("{} by {}, {}", self.size.width, self.size.height, word(self.strategy))
+        let occurring = self.layer_counts();
+        let layers = match self.is_layered() && !occurring.is_empty() {
+            true => format!(", {}", words::layers(occurring.keys())),
+            false => String::new(),
+        };
+        format!("{} by {}, {}{layers}", self.size.width, self.size.height, word(self.strategy))
     }
 }
 
@@ -144,8 +237,30 @@ pub fn file_name(path: &Path) -> String {
 
 #[cfg(test)]
 mod tests {
-    use super::{Position, file_name};
+    use super::{Layer, Plate, Position, file_name};
     use std::path::Path;
+
+    #[test]
+    fn a_layer_is_kept_with_the_numbers_of_its_contours() {
+        let mut plate = Plate::default();
+        for (contour, layer) in [2, 0, 1, 1].into_iter().enumerate() {
+            plate.layer = Layer::new(layer, 0);
+            plate.begin();
+            for point in 0..contour {
+                plate.push(contour as f64, point as f64, 10 * contour + point);
+            }
+        }
+        let whole = plate.clone();
+        plate.keep_layer(1);
+        assert_eq!((plate.lengths, plate.bytes), (vec![0, 0, 2, 3], vec![20, 21, 30, 31, 32]));
+        assert_eq!(plate.points, [2.0, 0.0, 2.0, 1.0, 3.0, 0.0, 3.0, 1.0, 3.0, 2.0]);
+        assert_eq!(plate.layers, whole.layers);
+        // What the library is to refuse is left as it is.
+        let mut short = Plate { layers: whole.layers[1..].to_vec(), ..whole };
+        let before = short.clone();
+        short.keep_layer(1);
+        assert_eq!(short, before);
+    }
 
     #[test]
     fn positions_count_characters_and_all_line_ends() {

@@ -1,9 +1,9 @@
 //! Refusals of the library, told with what stands at their place.
 
 use crate::number::show;
-use crate::plate::{Handed, Position};
+use crate::plate::{Handed, Layer, Position};
 use crate::words::{count, grouped};
-use twillharbor::{Mark, Point, Refusal, retrace_into, retrace_work};
+use twillharbor::{LayerFault, Mark, Point, Refusal, retrace_work};
 
 /// A plate with the file that it was read from.
 pub struct Loaded {
@@ -12,6 +12,10 @@ pub struct Loaded {
     pub text: String,
     /// For each point the byte of the text at which it stands.
     pub bytes: Vec<usize>,
+    /// The layers, with where the file gives them.
+    pub layers: Vec<Layer>,
+    /// The byte of the text at which the file lists them by themselves, if it does.
+    pub layers_byte: Option<usize>,
     pub plate: Handed,
 }
 
@@ -25,6 +29,10 @@ pub fn refused(loaded: &Loaded, refusal: Refusal) -> String {
             format!("{}, and 4,096 is the most", count(contours, "contour"))
         }
         Refusal::TooManyPoints => format!("{}, and 65,536 is the most", count(points, "point")),
+        Refusal::BadLayer(LayerFault::Layer { contour }) => {
+            return bad_layer(loaded, contour as usize, refusal);
+        }
+        Refusal::BadLayer(LayerFault::Length { .. }) => return layers_length(loaded, refusal),
         Refusal::OffThePlate { place } => return off_the_plate(loaded, place as usize, refusal),
         Refusal::Full { place } => full(plate, place as usize),
         Refusal::Blank => match contours {
@@ -37,8 +45,26 @@ pub fn refused(loaded: &Loaded, refusal: Refusal) -> String {
     format!("{name}: refused: {refusal}: {reason}")
 }
 
+/// A layer above 15 was given by the file, for 0 is that of a contour which it gives none.
+fn bad_layer(loaded: &Loaded, contour: usize, refusal: Refusal) -> String {
+    let Loaded { name, text, layers, .. } = loaded;
+    let layer = &layers[contour];
+    let position = Position::of(text, layer.byte.unwrap_or_default());
+    let label = layer.label.as_ref().map_or(String::new(), |label| format!(", \"{label}\""));
+    let number = layer.number;
+    format!("{name}:{position}: refused: {refusal}: it is {number}{label}")
+}
+
+/// The layers can be of another number than the contours only where the file lists them.
+fn layers_length(loaded: &Loaded, refusal: Refusal) -> String {
+    let Loaded { name, text, layers, layers_byte, .. } = loaded;
+    let position = Position::of(text, layers_byte.unwrap_or_default());
+    let listed = count(layers.len(), "layer");
+    format!("{name}:{position}: refused: {refusal}: the file lists {listed}")
+}
+
 fn off_the_plate(loaded: &Loaded, place: usize, refusal: Refusal) -> String {
-    let Loaded { name, text, bytes, plate } = loaded;
+    let Loaded { name, text, bytes, plate, .. } = loaded;
     let vertex = place / 2;
     let axis = if place.is_multiple_of(2) { "x" } else { "y" };
     let position = Position::of(text, bytes[vertex]);
@@ -59,9 +85,7 @@ fn full(plate: &Handed, capacity: usize) -> String {
     let mut work = vec![0; retrace_work(capacity, points, plate.lengths.len())];
     let mut distances = vec![0.0; plate.lengths.len()];
     // The answer is known: it is the refusal that is being told.
-    let _ = retrace_into(
-        &plate.points,
-        &plate.lengths,
+    let _ = plate.plate().retrace_into(
         plate.size,
         plate.strategy,
         &mut path,

@@ -4,9 +4,10 @@ use crate::args::{Command, PlateRequest, Request, Source};
 use crate::failure::Failure;
 use crate::joined::Joined;
 use crate::number::show;
-use crate::plate::{Handed, Position, Remark, file_name};
+use crate::plate::{Handed, Plate, Position, Remark, file_name};
 use crate::refused::{Loaded, distance_refused, refused};
 use crate::{help, output, read, step, view, words, write};
+use std::collections::BTreeSet;
 use std::io::Read;
 use std::path::{Path, PathBuf};
 use std::{fs, io};
@@ -38,21 +39,22 @@ fn plate(request: &PlateRequest) -> Result<(), Failure> {
         return Err(Failure::usage(line));
     }
     let loaded = load(request)?;
-    let Handed { points, lengths, size, strategy } = &loaded.plate;
+    let Handed { size, strategy, .. } = loaded.plate;
+    let plate = loaded.plate.plate();
     let refuse = |refusal| Failure::refused(refused(&loaded, refusal));
     let content = match request.command {
         Command::Retrace => write::retrace(&retrace(&loaded)?, request.format),
         Command::Straight => {
-            let entries = twillharbor::order(points, lengths, *size, *strategy).map_err(refuse)?;
-            let path = twillharbor::straight(points, lengths, *size, *strategy).map_err(refuse)?;
+            let entries = plate.order(size, strategy).map_err(refuse)?;
+            let path = plate.straight(size, strategy).map_err(refuse)?;
             write::straight(&loaded.plate, &entries, &path, request.format)
         }
         Command::Order => {
-            let entries = twillharbor::order(points, lengths, *size, *strategy).map_err(refuse)?;
+            let entries = plate.order(size, strategy).map_err(refuse)?;
             write::order(&loaded.plate, &entries, request.format)
         }
         Command::Start => {
-            let start = twillharbor::start(points, lengths, *size, *strategy).map_err(refuse)?;
+            let start = plate.start(size, strategy).map_err(refuse)?;
             write::start(&loaded.plate, start, request.format)
         }
         Command::Check => return check(&loaded),
@@ -69,26 +71,51 @@ fn plate(request: &PlateRequest) -> Result<(), Failure> {
 }
 
 /// Reads the plate; the command line's size and strategy hold before the file's. Without either
-/// the plate is 0 by 0, and the strategy the library's own.
+/// the plate is 0 by 0, and the strategy the library's own. Where the command line names a layer,
+/// the others' contours are empty.
 fn load(request: &PlateRequest) -> Result<Loaded, Failure> {
     let (name, text) = text(&request.source)?;
     let located = |remark: &Remark| {
         format!("{name}:{}: {}", Position::of(&text, remark.byte), remark.message)
     };
-    let plate = read::read(&text).map_err(|remark| Failure::file(located(&remark)))?;
-    // Notes are about the file's size, and nothing of that holds if both sides are given.
-    if request.width.is_none() || request.height.is_none() {
-        for note in &plate.notes {
-            output::report(&format!("note: {}", located(note)));
-        }
+    let mut plate = read::read(&text).map_err(|remark| Failure::file(located(&remark)))?;
+    // Nothing of the file's size holds if both sides are given.
+    let has_size = request.width.is_some() && request.height.is_some();
+    let notes = plate.notes.iter().filter(|_| !has_size);
+    for note in notes.chain(&plate.layer_notes) {
+        output::report(&format!("note: {}", located(note)));
+    }
+    if let Some(layer) = request.layer {
+        keep_layer(&mut plate, layer, &name)?;
     }
     let size = Size {
         width: request.width.or(plate.width).unwrap_or(0),
         height: request.height.or(plate.height).unwrap_or(0),
     };
     let strategy = request.strategy.or(plate.strategy).unwrap_or_default();
-    let handed = Handed { points: plate.points, lengths: plate.lengths, size, strategy };
-    Ok(Loaded { name, bytes: plate.bytes, plate: handed, text })
+    let layers = plate.layers.iter().map(|layer| layer.number).collect();
+    let Plate { points, lengths, bytes, layers_byte, .. } = plate;
+    let handed = Handed { points, lengths, layers, size, strategy };
+    Ok(Loaded { name, text, bytes, layers: plate.layers, layers_byte, plate: handed })
+}
+
+/// A layer of which there is nothing would give an empty path, which is rather a slip. Layers that
+/// the library refuses are left to it first.
+fn keep_layer(plate: &mut Plate, layer: u32, name: &str) -> Result<(), Failure> {
+    let held = plate.layers.iter().zip(&plate.lengths).filter(|&(_, &length)| length > 0);
+    let occurring: BTreeSet<u32> = held.map(|(layer, _)| layer.number).collect();
+    if plate.has_sound_layers() && !occurring.contains(&layer) {
+        let line = match occurring.len() {
+            0 => format!("{name}: no contour holds a point"),
+            _ => format!(
+                "{name}: no contour of layer {layer} holds a point; the contours that do are of {}",
+                words::layers(occurring.iter())
+            ),
+        };
+        return Err(Failure::usage(line));
+    }
+    plate.keep_layer(layer);
+    Ok(())
 }
 
 /// A file's name for messages, and its text.
@@ -121,15 +148,15 @@ fn text(source: &Source) -> Result<(String, String), Failure> {
 
 /// The wrapper makes the slices longer until the path fits, up to the limit.
 fn retrace(loaded: &Loaded) -> Result<Joined, Failure> {
-    let Handed { points, lengths, size, strategy } = &loaded.plate;
-    let path = twillharbor::retrace(points, lengths, *size, *strategy)
+    let Handed { size, strategy, .. } = loaded.plate;
+    let path = (loaded.plate.plate().retrace(size, strategy))
         .map_err(|refusal| Failure::refused(refused(loaded, refusal)))?;
     Ok(Joined::new(loaded.plate.clone(), path))
 }
 
 /// The answer goes to the standard output, a refusal too.
 fn check(loaded: &Loaded) -> Result<(), Failure> {
-    let Handed { points, lengths, size, strategy } = &loaded.plate;
+    let Handed { points, lengths, size, strategy, .. } = &loaded.plate;
     let joined = match retrace(loaded) {
         Ok(joined) => joined,
         Err(Failure { status, line }) => {
@@ -145,8 +172,14 @@ fn check(loaded: &Loaded) -> Result<(), Failure> {
         loaded.plate.terms(),
         words::counts(joined.path.counts())
     );
+    let layers = loaded.plate.layer_counts();
+    if layers.len() > 1 {
+        for (&layer, &counts) in &layers {
+            lines += &format!("{}\n", words::layer(layer, counts));
+        }
+    }
     // The start call alone refuses a plate without a point.
-    if let Err(refusal @ Refusal::Blank) = twillharbor::start(points, lengths, *size, *strategy) {
+    if let Err(refusal @ Refusal::Blank) = loaded.plate.plate().start(*size, *strategy) {
         lines += &format!("start: {refusal}\n");
     }
     output::print(&lines)

@@ -12,7 +12,7 @@
 //! FROM and TO are points as `(x,y)`. A reversed cut goes from vertex J + 1 to vertex J. G is the
 //! cut or jump that first made the groove that is gone back over, which is K if pair K is one;
 //! of a jump the vertex that it lands on is named. The start, before all pairs, is
-//! `0 start AT on contour C vertex V`.
+//! `0 start AT on contour C vertex V`. Where the plate has layers, each line ends in `layer N`.
 
 use crate::joined::{Joined, Told};
 use crate::number;
@@ -28,13 +28,23 @@ pub fn line(joined: &Joined, told: &Told) -> String {
         PairKind::Cut { .. } | PairKind::Jump { .. } => "",
     };
     let (number, kind, what) = (told.number, joined.kind(told.number), what(joined, told));
-    format!("{number} {kind} {from} -> {to} length {length} {verb}{what}")
+    let layer = layer(joined, number);
+    format!("{number} {kind} {from} -> {to} length {length} {verb}{what}{layer}")
+}
+
+/// What a line ends in.
+fn layer(joined: &Joined, number: usize) -> String {
+    match joined.is_layered {
+        true => format!(" layer {}", joined.layer(number)),
+        false => String::new(),
+    }
 }
 
 /// The line of the start; none where the path has no point.
 pub fn start_line(joined: &Joined) -> Option<String> {
     let (at, vertex) = joined.path.start()?;
-    Some(format!("0 start {} on {}", point(at), place(joined.locate(vertex))))
+    let (place, layer) = (place(joined.locate(vertex)), layer(joined, 0));
+    Some(format!("0 start {} on {place}{layer}", point(at)))
 }
 
 /// Labelled values of a pair, but for its number and kind; what matters most stands first.
@@ -46,27 +56,38 @@ pub fn details(joined: &Joined, told: &Told) -> Vec<(&'static str, String)> {
     };
     let (left, reached) = (joined.vertex(told.number - 1), joined.vertex(told.number));
     let (from, to) = (place(told.from), place(told.to));
-    vec![
+    let mut details = vec![
         ("from", point(told.pair.from)),
         ("to", point(told.pair.to)),
         ("length", number::show(told.length)),
         (verb, what(joined, told)),
+    ];
+    details.extend(layer_detail(joined, told.number));
+    details.extend([
         ("mark", mark(joined, told.number)),
         ("points", format!("path points {} and {}", told.number - 1, told.number)),
         ("vertices", format!("{left} to {reached} of the plate, {from} to {to}")),
-    ]
+    ]);
+    details
+}
+
+/// The layer as a labelled value, where the plate has layers.
+fn layer_detail(joined: &Joined, number: usize) -> Option<(&'static str, String)> {
+    joined.is_layered.then(|| ("layer", joined.layer(number).to_string()))
 }
 
 /// Labelled values of the start; none where the path has no point.
 pub fn start_details(joined: &Joined) -> Vec<(&'static str, String)> {
     let Some((at, vertex)) = joined.path.start() else { return Vec::new() };
-    vec![
-        ("at", point(at)),
-        ("starts", format!("on {}", place(joined.locate(vertex)))),
+    let starts = format!("on {}", place(joined.locate(vertex)));
+    let mut details = vec![("at", point(at)), ("starts", starts)];
+    details.extend(layer_detail(joined, 0));
+    details.extend([
         ("mark", mark(joined, 0)),
         ("points", "path point 0".to_owned()),
         ("vertices", format!("{vertex} of the plate")),
-    ]
+    ]);
+    details
 }
 
 /// What is cut, gone back over, or jumped between.
@@ -116,12 +137,18 @@ pub mod tests {
 
     /// A plate's path, starting inside.
     pub fn joined(contours: &[&[(f64, f64)]], width: u32, height: u32) -> Joined {
+        layered(contours, &vec![0; contours.len()], width, height)
+    }
+
+    /// The same of a plate in layers.
+    pub fn layered(contours: &[&[(f64, f64)]], layers: &[u32], width: u32, height: u32) -> Joined {
         let points: Vec<f64> =
             contours.iter().flat_map(|c| c.iter().flat_map(|p| [p.0, p.1])).collect();
         let lengths: Vec<u32> = contours.iter().map(|c| c.len() as u32).collect();
         let (size, strategy) = (Size { width, height }, StartPointStrategy::Inside);
-        let path = twillharbor::retrace(&points, &lengths, size, strategy).unwrap();
-        Joined::new(Handed { points, lengths, size, strategy }, path)
+        let handed = Handed { points, lengths, layers: layers.to_vec(), size, strategy };
+        let path = handed.plate().retrace(size, strategy).unwrap();
+        Joined::new(handed, path)
     }
 
     /// Plate E of document 01.
@@ -145,6 +172,28 @@ pub mod tests {
             "5 jump (0,0) -> (0,1) length 1 contour 0 vertex 0 to contour 1 vertex 0",
         ];
         assert_eq!(lines(&plate_e()), expected);
+    }
+
+    /// Two lines and a point between them: the point is nearer, and of a higher layer.
+    #[test]
+    fn layers_are_told_where_there_are_any() {
+        let contours: [&[(f64, f64)]; 3] =
+            [&[(0.0, 0.0), (4.0, 0.0)], &[(4.0, 1.0)], &[(0.0, 2.0), (4.0, 2.0)]];
+        let plate = layered(&contours, &[0, 7, 0], 0, 0);
+        let expected = [
+            "0 start (0,0) on contour 0 vertex 0 layer 0",
+            "1 cut (0,0) -> (4,0) length 4 contour 0 segment 0 layer 0",
+            "2 back-step (4,0) -> (0,0) length 4 reverses pair 1 over cut 1 contour 0 segment 0 layer 0",
+            "3 jump (0,0) -> (0,2) length 2 contour 0 vertex 0 to contour 2 vertex 0 layer 0",
+            "4 cut (0,2) -> (4,2) length 4 contour 2 segment 0 layer 0",
+            "5 jump (4,2) -> (4,1) length 1 contour 2 vertex 1 to contour 1 vertex 0 layer 7",
+        ];
+        assert_eq!(lines(&plate), expected);
+        assert!(details(&plate, &plate.tell(5)).contains(&("layer", "7".into())));
+        assert!(start_details(&plate).contains(&("layer", "0".into())));
+        let plain = joined(&contours, 0, 0);
+        assert!(lines(&plain).iter().all(|line| !line.contains("layer")));
+        assert!(details(&plain, &plain.tell(1)).iter().all(|&(label, _)| label != "layer"));
     }
 
     /// Plate F of document 01: the second contour is entered in its middle.

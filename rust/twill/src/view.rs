@@ -91,6 +91,7 @@ fn data(joined: &Joined, name: &str) -> String {
     let coordinates = joined.path.points().iter().flat_map(|p| [p.x, p.y]);
     let marks = joined.path.marks().iter().flat_map(|mark| mark.numbers());
     let lengths = (1..=joined.count()).map(|number| joined.tell(number).length);
+    let layers = || ("layers", array(plate.layers.iter().map(u32::to_string)));
     let members = [
         ("name", in_json(name)),
         ("width", plate.size.width.to_string()),
@@ -105,8 +106,8 @@ fn data(joined: &Joined, name: &str) -> String {
         ("marks", array(marks.map(|m| m.to_string()))),
         ("lengths", array(lengths.map(number::json))),
     ];
-    let lines: Vec<String> =
-        members.iter().map(|(key, value)| format!("\"{key}\":{value}")).collect();
+    let members = members.into_iter().chain(plate.is_layered().then(layers));
+    let lines: Vec<String> = members.map(|(key, value)| format!("\"{key}\":{value}")).collect();
     format!("{{\n{}\n}}", lines.join(",\n"))
 }
 
@@ -114,7 +115,7 @@ fn data(joined: &Joined, name: &str) -> String {
 mod tests {
     use super::{FIRST_LINE, page};
     use crate::number;
-    use crate::tell::tests::joined;
+    use crate::tell::tests::{joined, layered};
     use twillharbor::Mark;
 
     /// The value of a member of the page's data block, as it is written there.
@@ -155,6 +156,15 @@ mod tests {
         let points = joined.path.points().len().to_string();
         let values = ["8", "2", "\"inside\"", &points, "2", &back_steps, "2"];
         assert_eq!(short.map(|key| member(&page, key)), values);
+    }
+
+    #[test]
+    fn the_data_block_holds_layers_where_there_are_any() {
+        let contours: [&[(f64, f64)]; 3] = [&[(0.0, 0.0)], &[], &[(1.0, 0.0), (2.0, 0.0)]];
+        let with = page(&layered(&contours, &[3, 0, 15], 0, 0), "a");
+        assert_eq!(numbers(&with, "layers"), ["3", "0", "15"]);
+        let without = page(&joined(&contours, 0, 0), "a");
+        assert!(!without.contains("\n\"layers\":"));
     }
 
     #[test]

@@ -1,5 +1,6 @@
 //! Words for kinds, and numbers in sentences.
 
+use crate::plate::LayerCounts;
 use twillharbor::{Counts, Mark};
 
 /// The word for a mark's kind.
@@ -30,6 +31,22 @@ pub fn grouped(number: usize) -> String {
     grouped
 }
 
+/// `layer 3`, `layers 0, 1 and 3`, `no layer`.
+pub fn layers<'a>(numbers: impl Iterator<Item = &'a u32>) -> String {
+    let numbers: Vec<String> = numbers.map(u32::to_string).collect();
+    match numbers.as_slice() {
+        [] => "no layer".into(),
+        [one] => format!("layer {one}"),
+        [most @ .., last] => format!("layers {} and {last}", most.join(", ")),
+    }
+}
+
+/// `layer 3: 2 cuts, 1 contour`.
+pub fn layer(number: u32, counts: LayerCounts) -> String {
+    let (cuts, contours) = (count(counts.cuts, "cut"), count(counts.contours, "contour"));
+    format!("layer {number}: {cuts}, {contours}")
+}
+
 /// `6 points: 2 cuts, 2 back-steps, 1 jump`.
 pub fn counts(counts: Counts) -> String {
     format!(
@@ -43,8 +60,23 @@ pub fn counts(counts: Counts) -> String {
 
 #[cfg(test)]
 mod tests {
-    use super::{count, counts};
+    use super::{count, counts, layer, layers};
+    use crate::plate::LayerCounts;
     use twillharbor::Counts;
+
+    #[test]
+    fn layers_are_listed() {
+        for (numbers, words) in [
+            (&[][..], "no layer"),
+            (&[3], "layer 3"),
+            (&[0, 15], "layers 0 and 15"),
+            (&[0, 1, 3], "layers 0, 1 and 3"),
+        ] {
+            assert_eq!(layers(numbers.iter()), words);
+        }
+        let counts = LayerCounts { contours: 1, cuts: 1_000 };
+        assert_eq!(layer(3, counts), "layer 3: 1,000 cuts, 1 contour");
+    }
 
     #[test]
     fn numbers_are_grouped_and_plural() {

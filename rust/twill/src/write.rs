@@ -23,12 +23,19 @@ pub fn retrace(joined: &Joined, format: Format) -> String {
 fn retrace_text(joined: &Joined) -> String {
     let counts = words::counts(joined.path.counts());
     let mut text = format!("# retrace, {}: {counts}\n", joined.plate.terms());
-    for (p, mark) in joined.path.points().iter().zip(joined.path.marks()) {
+    for (place, (p, mark)) in joined.path.points().iter().zip(joined.path.marks()).enumerate() {
         let [_, reference] = mark.numbers();
         let kind = words::kind(*mark);
-        line(&mut text, format_args!("{} {} {kind} {reference}", show(p.x), show(p.y)));
+        let (contour, _) = joined.locate(joined.vertex(place));
+        let layer = layer_field(joined.is_layered, joined.plate.layers[contour]);
+        line(&mut text, format_args!("{} {} {kind} {reference}{layer}", show(p.x), show(p.y)));
     }
     text
+}
+
+/// What a line ends in: a blank and the layer, where the plate has layers.
+fn layer_field(is_layered: bool, layer: u32) -> String {
+    if is_layered { format!(" {layer}") } else { String::new() }
 }
 
 fn retrace_json(joined: &Joined) -> String {
@@ -64,14 +71,7 @@ fn retrace_row(joined: &Joined) -> String {
 /// The ordered contours' points; `entries` is the order.
 pub fn straight(plate: &Handed, entries: &[Entry], path: &[Point], format: Format) -> String {
     match format {
-        Format::Text => {
-            let mut text =
-                format!("# straight, {}: {}\n", plate.terms(), words::count(path.len(), "point"));
-            for p in path {
-                line(&mut text, format_args!("{} {}", show(p.x), show(p.y)));
-            }
-            text
-        }
+        Format::Text => straight_text(plate, entries, path),
         Format::Json => {
             format!(
                 "{{{},\n\"points\":{},\n\"path\":{}}}\n",
@@ -86,14 +86,39 @@ pub fn straight(plate: &Handed, entries: &[Entry], path: &[Point], format: Forma
     }
 }
 
+/// Where the plate has layers, a line names each before its points, so that the path is read back
+/// as a contour a layer.
+fn straight_text(plate: &Handed, entries: &[Entry], path: &[Point]) -> String {
+    let mut text =
+        format!("# straight, {}: {}\n", plate.terms(), words::count(path.len(), "point"));
+    let is_layered = plate.is_layered();
+    let mut rest = path;
+    let mut named = None;
+    for entry in entries {
+        let contour = entry.contour as usize;
+        let (points, after) = rest.split_at(plate.lengths[contour] as usize);
+        let layer = plate.layers[contour];
+        if is_layered && named.replace(layer) != Some(layer) {
+            line(&mut text, format_args!("layer {layer}"));
+        }
+        for p in points {
+            line(&mut text, format_args!("{} {}", show(p.x), show(p.y)));
+        }
+        rest = after;
+    }
+    text
+}
+
 /// The contours in order, each with its sense.
 pub fn order(plate: &Handed, entries: &[Entry], format: Format) -> String {
     match format {
         Format::Text => {
             let mut text =
                 format!("# order, {}: {}\n", plate.terms(), words::count(entries.len(), "contour"));
+            let is_layered = plate.is_layered();
             for entry in entries {
-                line(&mut text, format_args!("{} {}", entry.contour, sense(entry.reversed)));
+                let layer = layer_field(is_layered, plate.layers[entry.contour as usize]);
+                line(&mut text, format_args!("{} {}{layer}", entry.contour, sense(entry.reversed)));
             }
             text
         }
@@ -119,7 +144,10 @@ pub fn order(plate: &Handed, entries: &[Entry], format: Format) -> String {
 pub fn start(plate: &Handed, start: Start, format: Format) -> String {
     let sense = sense(start.reversed);
     match format {
-        Format::Text => format!("# start, {}\n{} {sense}\n", plate.terms(), start.contour),
+        Format::Text => {
+            let layer = layer_field(plate.is_layered(), plate.layers[start.contour as usize]);
+            format!("# start, {}\n{} {sense}{layer}\n", plate.terms(), start.contour)
+        }
         Format::Json => format!(
             "{{{},\n\"contour\":{},\"reversed\":{}}}\n",
             head(plate),
@@ -146,12 +174,20 @@ fn line(text: &mut String, line: std::fmt::Arguments<'_>) {
 /// The terms of a plate, as members of a JSON object.
 fn head(plate: &Handed) -> String {
     let size = plate.size;
+    let layers = match plate.is_layered() {
+        true => format!(",\"layers\":[{}]", numbers(&plate.layers, ",")),
+        false => String::new(),
+    };
     format!(
-        "\"width\":{},\"height\":{},\"start\":\"{}\"",
+        "\"width\":{},\"height\":{},\"start\":\"{}\"{layers}",
         size.width,
         size.height,
         word(plate.strategy)
     )
+}
+
+fn numbers(numbers: &[u32], between: &str) -> String {
+    numbers.iter().map(u32::to_string).collect::<Vec<_>>().join(between)
 }
 
 /// A JSON array, a line an element.
@@ -169,7 +205,8 @@ fn bracketed(points: &[Point]) -> String {
     points.iter().map(|&p| plate::point(p)).collect()
 }
 
-/// A plate as document 01 writes its marked plates: `(0,0)(4,0) | (4,1)(8,1), 8 by 2, Outside`.
+/// A plate as document 01 writes its marked plates: `(0,0)(4,0) | (4,1)(8,1), 8 by 2, Outside`, and
+/// `, layers 0 1` where it has layers.
 fn row(plate: &Handed) -> String {
     let contour = |points: Vec<Point>| match points.as_slice() {
         [] => "empty".into(),
@@ -181,5 +218,9 @@ fn row(plate: &Handed) -> String {
         twillharbor::StartPointStrategy::Inside => "Inside",
     };
     let contours = if contours.is_empty() { "none".into() } else { contours.join(" | ") };
-    format!("{contours}, {} by {}, {strategy}", plate.size.width, plate.size.height)
+    let layers = match plate.is_layered() {
+        true => format!(", layers {}", numbers(&plate.layers, " ")),
+        false => String::new(),
+    };
+    format!("{contours}, {} by {}, {strategy}{layers}", plate.size.width, plate.size.height)
 }

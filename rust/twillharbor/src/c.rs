@@ -79,6 +79,7 @@ unsafe extern "C" {
     /// struct twillharbor_start_result twillharbor_start(
     ///     const double *points, size_t points_length,
     ///     const uint32_t *lengths, size_t lengths_length,
+    ///     const uint32_t *layers, size_t layers_length,
     ///     uint32_t width, uint32_t height, bool inside);
     /// ```
     fn twillharbor_start(
@@ -86,6 +87,8 @@ unsafe extern "C" {
         points_length: usize,
         lengths: *const u32,
         lengths_length: usize,
+        layers: *const u32,
+        layers_length: usize,
         width: u32,
         height: u32,
         inside: bool,
@@ -95,6 +98,7 @@ unsafe extern "C" {
     /// struct twillharbor_order_result twillharbor_order(
     ///     const double *points, size_t points_length,
     ///     const uint32_t *lengths, size_t lengths_length,
+    ///     const uint32_t *layers, size_t layers_length,
     ///     uint32_t width, uint32_t height, bool inside,
     ///     uint32_t *order, size_t order_length,
     ///     uint32_t *work, size_t work_length);
@@ -104,6 +108,8 @@ unsafe extern "C" {
         points_length: usize,
         lengths: *const u32,
         lengths_length: usize,
+        layers: *const u32,
+        layers_length: usize,
         width: u32,
         height: u32,
         inside: bool,
@@ -117,6 +123,7 @@ unsafe extern "C" {
     /// struct twillharbor_straight_result twillharbor_straight(
     ///     const double *points, size_t points_length,
     ///     const uint32_t *lengths, size_t lengths_length,
+    ///     const uint32_t *layers, size_t layers_length,
     ///     uint32_t width, uint32_t height, bool inside,
     ///     double *path, size_t path_length,
     ///     uint32_t *work, size_t work_length);
@@ -126,6 +133,8 @@ unsafe extern "C" {
         points_length: usize,
         lengths: *const u32,
         lengths_length: usize,
+        layers: *const u32,
+        layers_length: usize,
         width: u32,
         height: u32,
         inside: bool,
@@ -139,6 +148,7 @@ unsafe extern "C" {
     /// struct twillharbor_retrace_result twillharbor_retrace(
     ///     const double *points, size_t points_length,
     ///     const uint32_t *lengths, size_t lengths_length,
+    ///     const uint32_t *layers, size_t layers_length,
     ///     uint32_t width, uint32_t height, bool inside,
     ///     double *path, size_t path_length,
     ///     uint32_t *marks, size_t marks_length,
@@ -150,6 +160,8 @@ unsafe extern "C" {
         points_length: usize,
         lengths: *const u32,
         lengths_length: usize,
+        layers: *const u32,
+        layers_length: usize,
         width: u32,
         height: u32,
         inside: bool,
@@ -168,6 +180,7 @@ unsafe extern "C" {
 pub fn start(
     points: &[f64],
     lengths: &[u32],
+    layers: &[u32],
     width: u32,
     height: u32,
     inside: bool,
@@ -179,6 +192,8 @@ pub fn start(
             points.len(),
             lengths.as_ptr(),
             lengths.len(),
+            layers.as_ptr(),
+            layers.len(),
             width,
             height,
             inside,
@@ -187,9 +202,11 @@ pub fn start(
 }
 
 /// `twillharbor_order` on Rust's slices.
+#[allow(clippy::too_many_arguments)]
 pub fn order(
     points: &[f64],
     lengths: &[u32],
+    layers: &[u32],
     width: u32,
     height: u32,
     inside: bool,
@@ -204,6 +221,8 @@ pub fn order(
             points.len(),
             lengths.as_ptr(),
             lengths.len(),
+            layers.as_ptr(),
+            layers.len(),
             width,
             height,
             inside,
@@ -216,9 +235,11 @@ pub fn order(
 }
 
 /// `twillharbor_straight` on Rust's slices.
+#[allow(clippy::too_many_arguments)]
 pub fn straight(
     points: &[f64],
     lengths: &[u32],
+    layers: &[u32],
     width: u32,
     height: u32,
     inside: bool,
@@ -233,6 +254,8 @@ pub fn straight(
             points.len(),
             lengths.as_ptr(),
             lengths.len(),
+            layers.as_ptr(),
+            layers.len(),
             width,
             height,
             inside,
@@ -249,6 +272,7 @@ pub fn straight(
 pub fn retrace(
     points: &[f64],
     lengths: &[u32],
+    layers: &[u32],
     width: u32,
     height: u32,
     inside: bool,
@@ -265,6 +289,8 @@ pub fn retrace(
             points.len(),
             lengths.as_ptr(),
             lengths.len(),
+            layers.as_ptr(),
+            layers.len(),
             width,
             height,
             inside,
@@ -283,6 +309,9 @@ pub fn retrace(
 #[cfg(test)]
 mod tests {
     use super::{RetraceResult, order, retrace, start, straight, twillharbor_distance};
+
+    /// Points, lengths and layers, and the number and place with which they are refused.
+    type Refused<'a> = (&'a [f64], &'a [u32], &'a [u32], u32, u32);
 
     fn numbers(r: RetraceResult) -> [u32; 6] {
         [r.number, r.place, r.points, r.cuts, r.back_steps, r.jumps]
@@ -303,27 +332,30 @@ mod tests {
     #[test]
     fn refusals_of_the_plate_calls_leave_the_other_fields_zero() {
         let many = vec![0; 4097];
-        let plates: [(&[f64], &[u32], u32, u32); 5] = [
-            (&[], &many, 1, 0),
-            (&[], &[u32::MAX, 1], 2, 0),
-            (&[1.0], &[1], 3, 0),
-            (&[0.0, 0.0, 1.0, f64::NAN, 2.0, 2.0], &[1, 2], 4, 3),
-            (&[0.0, 0.0, 1.0, 1.0, 2.0, 2.0], &[1, 2], 5, 0),
+        let plates: [Refused; 7] = [
+            (&[], &many, &[], 1, 0),
+            (&[], &[u32::MAX, 1], &[], 2, 0),
+            (&[1.0], &[1], &[], 3, 0),
+            (&[f64::NAN, 0.0], &[1, 0], &[16], 13, 2),
+            (&[f64::NAN, 0.0], &[1, 0], &[15, 16], 13, 1),
+            (&[0.0, 0.0, 1.0, f64::NAN, 2.0, 2.0], &[1, 2], &[15, 0], 4, 3),
+            (&[0.0, 0.0, 1.0, 1.0, 2.0, 2.0], &[1, 2], &[0, 15], 5, 0),
         ];
-        for (points, lengths, number, place) in plates {
+        for (points, lengths, layers, number, place) in plates {
             for inside in [false, true] {
-                if number < 5 {
-                    let r = start(points, lengths, 7, 9, inside);
+                if number != 5 {
+                    let r = start(points, lengths, layers, 7, 9, inside);
                     assert_eq!([r.number, r.place, r.contour, r.reversed], [number, place, 0, 0]);
                 }
-                let r = order(points, lengths, 7, 9, inside, &mut [8; 4], &mut [8]);
+                let r = order(points, lengths, layers, 7, 9, inside, &mut [8; 4], &mut [8]);
                 assert_eq!([r.number, r.place, r.entries], [number, place, 0]);
-                let r = straight(points, lengths, 7, 9, inside, &mut [8.0; 4], &mut [8]);
+                let r = straight(points, lengths, layers, 7, 9, inside, &mut [8.0; 4], &mut [8]);
                 assert_eq!([r.number, r.place, r.points], [number, place, 0]);
                 let (mut path, mut marks, mut work) = ([8.0; 4], [8; 4], [8]);
                 let r = retrace(
                     points,
                     lengths,
+                    layers,
                     7,
                     9,
                     inside,
@@ -335,12 +367,16 @@ mod tests {
                 assert_eq!(numbers(r), [number, place, 0, 0, 0, 0]);
             }
         }
-        let r = start(&[], &[0], 7, 9, true);
+        let r = start(&[], &[0], &[0], 7, 9, true);
         assert_eq!([r.number, r.place, r.contour, r.reversed], [7, 0, 0, 0]);
-        let (points, lengths) = ([0.0, 0.0, 1.0, 1.0, 2.0, 2.0], [1, 2]);
-        let r = order(&points, &lengths, 7, 9, false, &mut [8; 3], &mut [8; 2]);
+    }
+
+    #[test]
+    fn full_and_short_slices_leave_the_other_fields_zero() {
+        let (points, lengths, layers) = ([0.0, 0.0, 1.0, 1.0, 2.0, 2.0], [1, 2], [0, 0]);
+        let r = order(&points, &lengths, &layers, 7, 9, false, &mut [8; 3], &mut [8; 2]);
         assert_eq!([r.number, r.place, r.entries], [6, 1, 0]);
-        let r = straight(&points, &lengths, 7, 9, false, &mut [8.0; 5], &mut [8; 2]);
+        let r = straight(&points, &lengths, &layers, 7, 9, false, &mut [8.0; 5], &mut [8; 2]);
         assert_eq!([r.number, r.place, r.points], [6, 2, 0]);
         let (mut path, mut marks, mut work) = ([8.0; 9], [8; 5], vec![8; 2 + 12 + 16 + 16_384]);
         for (held, distances, number, place) in [
@@ -349,8 +385,18 @@ mod tests {
             (work.len(), 1, 5, 1),
             (work.len(), 2, 6, 2),
         ] {
-            let (work, distances) = (&mut work[..held], &mut [8.0; 2][..distances]);
-            let r = retrace(&points, &lengths, 7, 9, false, &mut path, &mut marks, work, distances);
+            let r = retrace(
+                &points,
+                &lengths,
+                &layers,
+                7,
+                9,
+                false,
+                &mut path,
+                &mut marks,
+                &mut work[..held],
+                &mut [8.0; 2][..distances],
+            );
             assert_eq!(numbers(r), [number, place, 0, 0, 0, 0]);
         }
     }

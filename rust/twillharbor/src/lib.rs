@@ -1,8 +1,8 @@
 //! Twillharbor joins disconnected contours to one path that a machine can draw
 //! without lifting its stylus.
 //!
-//! The work is done by a static library that was proved to give what document 01
-//! of the project defines. This crate calls it: it turns slices and results into
+//! The work is done by a static library that was proved to give what documents 01
+//! and 02 of the project define. This crate calls it: it turns slices and results into
 //! Rust's types and a refusal into an error. It computes nothing itself.
 //!
 //! The answers hold for IEEE 754's default floating-point environment alone: rounding to
@@ -18,9 +18,10 @@ mod refusal;
 mod retrace;
 
 pub use plate::{
-    Entry, Size, Start, StartPointStrategy, order, order_into, start, straight, straight_into,
+    Entry, HIGHEST_LAYER, Plate, Size, Start, StartPointStrategy, order, order_into, start,
+    straight, straight_into,
 };
-pub use refusal::Refusal;
+pub use refusal::{LayerFault, Refusal};
 pub use retrace::{Counts, Mark, MarkedPath, Pair, PairKind, retrace, retrace_into, retrace_work};
 
 /// A point of the plate.

@@ -4,6 +4,8 @@
 //! then its vertical coordinate, each contour's points following the last's; `lengths`
 //! holds the contours' numbers of points. A zero is allowed there and such a contour is
 //! skipped. A contour number is a place in `lengths`, skipped ones counted.
+//!
+//! The functions take a plate without layers; [`Plate`] has the same calls for one with layers.
 
 use crate::{Point, Refusal, c, refusal};
 
@@ -11,6 +13,146 @@ use crate::{Point, Refusal, c, refusal};
 pub(crate) const MOST_CONTOURS: usize = 4_096;
 /// More points are refused before any other slice counts.
 pub(crate) const MOST_POINTS: usize = 65_536;
+
+/// The highest layer that a contour may have.
+pub const HIGHEST_LAYER: u32 = 15;
+
+/// The layers of a plate without layers. They are enough: a plate of more contours is refused
+/// for that, whatever its layers.
+static NO_LAYERS: [u32; MOST_CONTOURS] = [0; MOST_CONTOURS];
+
+/// A plate whose contours have layers, or none.
+///
+/// A call chooses a contour only if none that waits has a lower layer. A contour waits that
+/// holds a point and was not chosen before: a skipped one never waits, whatever its layer. So a
+/// layer is drawn whole before the next, and along a path the layers of the cuts never fall.
+///
+/// ```
+/// use twillharbor::{Plate, Size, StartPointStrategy::Inside};
+///
+/// // (0,0) | (1,0) | (2,0): the nearer contour 1 waits for contour 2.
+/// let plate = Plate::with_layers(&[0.0, 0.0, 1.0, 0.0, 2.0, 0.0], &[1, 1, 1], &[0, 15, 7]);
+/// let order = plate.order(Size::default(), Inside).unwrap();
+/// assert_eq!(order.iter().map(|entry| entry.contour).collect::<Vec<_>>(), [0, 2, 1]);
+/// ```
+#[derive(Debug, Clone, Copy, PartialEq)]
+pub struct Plate<'a> {
+    pub(crate) points: &'a [f64],
+    pub(crate) lengths: &'a [u32],
+    pub(crate) layers: &'a [u32],
+}
+
+impl<'a> Plate<'a> {
+    /// A plate without layers: every contour is of layer 0.
+    #[must_use]
+    pub fn new(points: &'a [f64], lengths: &'a [u32]) -> Self {
+        let layers = &NO_LAYERS[..lengths.len().min(MOST_CONTOURS)];
+        Self { points, lengths, layers }
+    }
+
+    /// A plate with layers: `layers` holds one number for each contour, 0 to [`HIGHEST_LAYER`],
+    /// for a skipped one too.
+    #[must_use]
+    pub const fn with_layers(points: &'a [f64], lengths: &'a [u32], layers: &'a [u32]) -> Self {
+        Self { points, lengths, layers }
+    }
+
+    /// The [start](start()) call: of the contours of the lowest layer that waits.
+    ///
+    /// # Errors
+    ///
+    /// Those of [`start`](start()), and [`BadLayer`](Refusal::BadLayer) before
+    /// [`OffThePlate`](Refusal::OffThePlate).
+    pub fn start(&self, size: Size, strategy: StartPointStrategy) -> Result<Start, Refusal> {
+        let Self { points, lengths, layers } = *self;
+        let inside = strategy.is_inside();
+        let result = c::start(points, lengths, layers, size.width, size.height, inside);
+        self.accepted(result.number, result.place)?;
+        Ok(Start { contour: result.contour, reversed: is_reversed(result.reversed) })
+    }
+
+    /// The [order](order()) call: the next is of the lowest layer that waits.
+    ///
+    /// # Errors
+    ///
+    /// Those of [`order`](order()), and [`BadLayer`](Refusal::BadLayer) before
+    /// [`OffThePlate`](Refusal::OffThePlate).
+    pub fn order(&self, size: Size, strategy: StartPointStrategy) -> Result<Vec<Entry>, Refusal> {
+        let contours = self.lengths.len().min(MOST_CONTOURS);
+        let mut order = vec![0; 2 * contours];
+        let mut work = vec![0; contours];
+        let entries = self.order_into(size, strategy, &mut order, &mut work)?;
+        let (entries, _) = order[..2 * entries].as_chunks();
+        Ok(entries
+            .iter()
+            .map(|&[contour, reversed]| Entry { contour, reversed: is_reversed(reversed) })
+            .collect())
+    }
+
+    /// [`order`](Self::order) into a lent slice, as the function [`order_into`] has it.
+    ///
+    /// # Errors
+    ///
+    /// Those of [`order_into`], and [`BadLayer`](Refusal::BadLayer) before
+    /// [`OffThePlate`](Refusal::OffThePlate), which alters no slice either.
+    pub fn order_into(
+        &self,
+        size: Size,
+        strategy: StartPointStrategy,
+        order: &mut [u32],
+        work: &mut [u32],
+    ) -> Result<usize, Refusal> {
+        let Self { points, lengths, layers } = *self;
+        let inside = strategy.is_inside();
+        let result =
+            c::order(points, lengths, layers, size.width, size.height, inside, order, work);
+        self.accepted(result.number, result.place)?;
+        Ok(result.entries as usize)
+    }
+
+    /// The [straight](straight()) call: the [ordered](Self::order) contours' points.
+    ///
+    /// # Errors
+    ///
+    /// Those of [`straight`](straight()), and [`BadLayer`](Refusal::BadLayer) before
+    /// [`OffThePlate`](Refusal::OffThePlate).
+    pub fn straight(
+        &self,
+        size: Size,
+        strategy: StartPointStrategy,
+    ) -> Result<Vec<Point>, Refusal> {
+        let mut path = vec![0.0; self.points.len().min(2 * MOST_POINTS)];
+        let mut work = vec![0; self.lengths.len().min(MOST_CONTOURS)];
+        let count = self.straight_into(size, strategy, &mut path, &mut work)?;
+        let (path, _) = path[..2 * count].as_chunks();
+        Ok(path.iter().map(|&[x, y]| Point { x, y }).collect())
+    }
+
+    /// [`straight`](Self::straight) into a lent slice, as the function [`straight_into`] has it.
+    ///
+    /// # Errors
+    ///
+    /// Those of [`straight_into`], and [`BadLayer`](Refusal::BadLayer) before
+    /// [`OffThePlate`](Refusal::OffThePlate), which alters no slice either.
+    pub fn straight_into(
+        &self,
+        size: Size,
+        strategy: StartPointStrategy,
+        path: &mut [f64],
+        work: &mut [u32],
+    ) -> Result<usize, Refusal> {
+        let Self { points, lengths, layers } = *self;
+        let inside = strategy.is_inside();
+        let result =
+            c::straight(points, lengths, layers, size.width, size.height, inside, path, work);
+        self.accepted(result.number, result.place)?;
+        Ok(result.points as usize)
+    }
+
+    pub(crate) fn accepted(&self, number: u32, place: u32) -> Result<(), Refusal> {
+        refusal::accepted_plate(number, place, self.lengths.len())
+    }
+}
 
 /// The width and the height of a plate, of which the centre is half.
 #[derive(Debug, Clone, Copy, PartialEq, Eq, Default)]
@@ -68,9 +210,7 @@ pub fn start(
     size: Size,
     strategy: StartPointStrategy,
 ) -> Result<Start, Refusal> {
-    let result = c::start(points, lengths, size.width, size.height, strategy.is_inside());
-    refusal::accepted(result.number, result.place)?;
-    Ok(Start { contour: result.contour, reversed: is_reversed(result.reversed) })
+    Plate::new(points, lengths).start(size, strategy)
 }
 
 /// The contours that hold a point, in the order in which [`straight`] joins them: after the
@@ -87,15 +227,7 @@ pub fn order(
     size: Size,
     strategy: StartPointStrategy,
 ) -> Result<Vec<Entry>, Refusal> {
-    let contours = lengths.len().min(MOST_CONTOURS);
-    let mut order = vec![0; 2 * contours];
-    let mut work = vec![0; contours];
-    let entries = order_into(points, lengths, size, strategy, &mut order, &mut work)?;
-    let (entries, _) = order[..2 * entries].as_chunks();
-    Ok(entries
-        .iter()
-        .map(|&[contour, reversed]| Entry { contour, reversed: is_reversed(reversed) })
-        .collect())
+    Plate::new(points, lengths).order(size, strategy)
 }
 
 /// [`order`] into a lent slice: gives the number of entries.
@@ -118,10 +250,7 @@ pub fn order_into(
     order: &mut [u32],
     work: &mut [u32],
 ) -> Result<usize, Refusal> {
-    let inside = strategy.is_inside();
-    let result = c::order(points, lengths, size.width, size.height, inside, order, work);
-    refusal::accepted(result.number, result.place)?;
-    Ok(result.entries as usize)
+    Plate::new(points, lengths).order_into(size, strategy, order, work)
 }
 
 /// The [ordered](order) contours' points, one contour after the other, each in its sense.
@@ -136,11 +265,7 @@ pub fn straight(
     size: Size,
     strategy: StartPointStrategy,
 ) -> Result<Vec<Point>, Refusal> {
-    let mut path = vec![0.0; points.len().min(2 * MOST_POINTS)];
-    let mut work = vec![0; lengths.len().min(MOST_CONTOURS)];
-    let count = straight_into(points, lengths, size, strategy, &mut path, &mut work)?;
-    let (path, _) = path[..2 * count].as_chunks();
-    Ok(path.iter().map(|&[x, y]| Point { x, y }).collect())
+    Plate::new(points, lengths).straight(size, strategy)
 }
 
 /// [`straight`] into a lent slice: gives the number of path points.
@@ -163,10 +288,7 @@ pub fn straight_into(
     path: &mut [f64],
     work: &mut [u32],
 ) -> Result<usize, Refusal> {
-    let inside = strategy.is_inside();
-    let result = c::straight(points, lengths, size.width, size.height, inside, path, work);
-    refusal::accepted(result.number, result.place)?;
-    Ok(result.points as usize)
+    Plate::new(points, lengths).straight_into(size, strategy, path, work)
 }
 
 /// # Panics

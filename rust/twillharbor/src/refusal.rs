@@ -1,8 +1,12 @@
+use crate::HIGHEST_LAYER;
+use std::cmp::Ordering;
 use std::error::Error;
 use std::fmt;
 
-/// Why a call was refused: the table of document 01. Its conditions are tested in this
-/// order, and the lowest wins.
+const BAD_LAYER: u32 = 13;
+
+/// Why a call was refused: the table of documents 01 and 02. Its conditions are tested in this
+/// order, 13 between 3 and 4, and the first that holds wins.
 #[derive(Debug, Clone, Copy, PartialEq, Eq, Hash)]
 #[non_exhaustive]
 pub enum Refusal {
@@ -12,6 +16,8 @@ pub enum Refusal {
     TooManyPoints,
     /// 3: the point slice's length is not twice that sum.
     Miscounted,
+    /// 13: the layer slice has not one number for each contour, or a layer is above 15.
+    BadLayer(LayerFault),
     /// 4: a coordinate is NaN, infinite or beyond the call's limit.
     OffThePlate {
         /// The first such coordinate.
@@ -31,6 +37,21 @@ pub enum Refusal {
     Blank,
 }
 
+/// What is wrong with the layers. The length is tested first.
+#[derive(Debug, Clone, Copy, PartialEq, Eq, Hash)]
+pub enum LayerFault {
+    /// The layer slice's length is not the number of contours.
+    Length {
+        /// The number of contours, which is the refusal's place.
+        contours: u32,
+    },
+    /// A layer is above 15.
+    Layer {
+        /// The first contour that has such a layer, a skipped one too: the refusal's place.
+        contour: u32,
+    },
+}
+
 impl Refusal {
     /// The refusal's number in the table.
     #[must_use]
@@ -39,6 +60,7 @@ impl Refusal {
             Self::TooManyContours => 1,
             Self::TooManyPoints => 2,
             Self::Miscounted => 3,
+            Self::BadLayer(_) => BAD_LAYER,
             Self::OffThePlate { .. } => 4,
             Self::WorkShort { .. } => 5,
             Self::Full { .. } => 6,
@@ -53,6 +75,7 @@ impl Refusal {
             Self::TooManyContours => "too many contours",
             Self::TooManyPoints => "too many points",
             Self::Miscounted => "miscounted",
+            Self::BadLayer(_) => "bad layer",
             Self::OffThePlate { .. } => "off the plate",
             Self::WorkShort { .. } => "work short",
             Self::Full { .. } => "full",
@@ -64,7 +87,12 @@ impl Refusal {
     #[must_use]
     pub const fn place(self) -> u32 {
         match self {
-            Self::OffThePlate { place } | Self::WorkShort { place } | Self::Full { place } => place,
+            Self::OffThePlate { place }
+            | Self::WorkShort { place }
+            | Self::Full { place }
+            | Self::BadLayer(
+                LayerFault::Length { contours: place } | LayerFault::Layer { contour: place },
+            ) => place,
             Self::TooManyContours | Self::TooManyPoints | Self::Miscounted | Self::Blank => 0,
         }
     }
@@ -72,11 +100,28 @@ impl Refusal {
 
 impl fmt::Display for Refusal {
     fn fmt(&self, f: &mut fmt::Formatter<'_>) -> fmt::Result {
-        write!(f, "{} (refusal {}, place {})", self.word(), self.number(), self.place())
+        write!(f, "{} (refusal {}, place {})", self.word(), self.number(), self.place())?;
+        match self {
+            Self::BadLayer(fault) => write!(f, ": {fault}"),
+            _ => Ok(()),
+        }
     }
 }
 
 impl Error for Refusal {}
+
+impl fmt::Display for LayerFault {
+    fn fmt(&self, f: &mut fmt::Formatter<'_>) -> fmt::Result {
+        match self {
+            Self::Length { contours } => {
+                write!(f, "the number of layers is not that of the contours, {contours}")
+            }
+            Self::Layer { contour } => {
+                write!(f, "contour {contour} has a layer above {HIGHEST_LAYER}")
+            }
+        }
+    }
+}
 
 /// Whether a call gave a result: number 0 says so, any other is a refusal's.
 ///
@@ -100,9 +145,28 @@ pub(crate) fn accepted(number: u32, place: u32) -> Result<(), Refusal> {
     })
 }
 
+/// [`accepted`] for a call that takes a plate, which may have layers. A place of refusal 13 is
+/// below the number of contours where it is a contour's.
+///
+/// # Panics
+///
+/// As [`accepted`].
+pub(crate) fn accepted_plate(number: u32, place: u32, contours: usize) -> Result<(), Refusal> {
+    if number != BAD_LAYER {
+        return accepted(number, place);
+    }
+    Err(Refusal::BadLayer(match (place as usize).cmp(&contours) {
+        Ordering::Less => LayerFault::Layer { contour: place },
+        Ordering::Equal => LayerFault::Length { contours: place },
+        Ordering::Greater => {
+            panic!("libtwillharbor.a refused a layer of contour {place} of {contours}")
+        }
+    }))
+}
+
 #[cfg(test)]
 mod tests {
-    use super::{Refusal, accepted};
+    use super::{LayerFault, Refusal, accepted, accepted_plate};
 
     #[test]
     fn numbers_words_and_places_are_those_of_the_table() {
@@ -133,6 +197,34 @@ mod tests {
         for (number, place) in [(8, 0), (u32::MAX, 0), (0, 1), (1, 1), (3, 9), (5, 2), (7, 1)] {
             let outcome = std::panic::catch_unwind(|| accepted(number, place));
             assert!(outcome.is_err(), "number {number}, place {place} passed");
+            let outcome = std::panic::catch_unwind(|| accepted_plate(number, place, 9));
+            assert!(outcome.is_err(), "number {number}, place {place} passed of a plate");
         }
+        // The distance call has no layers, and no contour is beyond the last.
+        assert!(std::panic::catch_unwind(|| accepted(13, 0)).is_err());
+        assert!(std::panic::catch_unwind(|| accepted_plate(13, 10, 9)).is_err());
+    }
+
+    #[test]
+    fn a_bad_layer_is_a_contours_or_the_slices() {
+        for (place, fault, message) in [
+            (
+                8,
+                LayerFault::Layer { contour: 8 },
+                "bad layer (refusal 13, place 8): contour 8 has a layer above 15",
+            ),
+            (
+                9,
+                LayerFault::Length { contours: 9 },
+                "bad layer (refusal 13, place 9): the number of layers is not that of the contours, 9",
+            ),
+        ] {
+            let refusal = accepted_plate(13, place, 9).unwrap_err();
+            assert_eq!(refusal, Refusal::BadLayer(fault));
+            assert_eq!((refusal.number(), refusal.place()), (13, place));
+            assert_eq!(refusal.word(), "bad layer");
+            assert_eq!(refusal.to_string(), message);
+        }
+        assert_eq!(accepted_plate(0, 0, 0), Ok(()));
     }
 }

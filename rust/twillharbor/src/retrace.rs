@@ -1,7 +1,7 @@
 //! The retrace call. It takes a plate as the other calls do, and gives a path with marks.
 
 use crate::plate::{MOST_CONTOURS, MOST_POINTS};
-use crate::{Point, Refusal, Size, StartPointStrategy, c, refusal};
+use crate::{Plate, Point, Refusal, Size, StartPointStrategy, c};
 
 /// C is at most this, however long the slices are.
 const MOST_PATH_POINTS: usize = 1_048_576;
@@ -200,33 +200,7 @@ pub fn retrace(
     size: Size,
     strategy: StartPointStrategy,
 ) -> Result<MarkedPath, Refusal> {
-    // Where these are not the plate's numbers it is refused for them.
-    let held = (points.len() / 2).min(MOST_POINTS);
-    let contours = lengths.len().min(MOST_CONTOURS);
-    let mut distances = vec![0.0; contours];
-    let mut capacity = 2 * held;
-    loop {
-        let mut path = vec![0.0; 2 * capacity];
-        let mut marks = vec![0; 2 * capacity];
-        let mut work = vec![0; retrace_work(capacity, held, contours)];
-        let outcome = retrace_into(
-            points,
-            lengths,
-            size,
-            strategy,
-            &mut path,
-            &mut marks,
-            &mut work,
-            &mut distances,
-        );
-        match outcome {
-            Ok(counts) => return Ok(MarkedPath::new(&path, &marks, counts)),
-            Err(Refusal::Full { .. }) if capacity < MOST_PATH_POINTS => {
-                capacity = (4 * capacity).min(MOST_PATH_POINTS);
-            }
-            Err(refusal) => return Err(refusal),
-        }
-    }
+    Plate::new(points, lengths).retrace(size, strategy)
 }
 
 /// [`retrace`] into lent slices: gives the numbers of path points and of each kind of pair.
@@ -255,24 +229,74 @@ pub fn retrace_into(
     work: &mut [u32],
     distances: &mut [f64],
 ) -> Result<Counts, Refusal> {
-    let result = c::retrace(
-        points,
-        lengths,
-        size.width,
-        size.height,
-        strategy.is_inside(),
-        path,
-        marks,
-        work,
-        distances,
-    );
-    refusal::accepted(result.number, result.place)?;
-    Ok(Counts {
-        points: result.points as usize,
-        cuts: result.cuts as usize,
-        back_steps: result.back_steps as usize,
-        jumps: result.jumps as usize,
-    })
+    Plate::new(points, lengths).retrace_into(size, strategy, path, marks, work, distances)
+}
+
+impl Plate<'_> {
+    /// The [retrace](retrace()) call: the next contour is of the lowest layer that waits, and of
+    /// its contours the one whose cached distance is least.
+    ///
+    /// # Errors
+    ///
+    /// Those of [`retrace`](retrace()), and [`BadLayer`](Refusal::BadLayer) before
+    /// [`OffThePlate`](Refusal::OffThePlate).
+    pub fn retrace(&self, size: Size, strategy: StartPointStrategy) -> Result<MarkedPath, Refusal> {
+        // Where these are not the plate's numbers it is refused for them.
+        let held = (self.points.len() / 2).min(MOST_POINTS);
+        let contours = self.lengths.len().min(MOST_CONTOURS);
+        let mut distances = vec![0.0; contours];
+        let mut capacity = 2 * held;
+        loop {
+            let mut path = vec![0.0; 2 * capacity];
+            let mut marks = vec![0; 2 * capacity];
+            let mut work = vec![0; retrace_work(capacity, held, contours)];
+            let outcome =
+                self.retrace_into(size, strategy, &mut path, &mut marks, &mut work, &mut distances);
+            match outcome {
+                Ok(counts) => return Ok(MarkedPath::new(&path, &marks, counts)),
+                Err(Refusal::Full { .. }) if capacity < MOST_PATH_POINTS => {
+                    capacity = (4 * capacity).min(MOST_PATH_POINTS);
+                }
+                Err(refusal) => return Err(refusal),
+            }
+        }
+    }
+
+    /// [`retrace`](Self::retrace) into lent slices, as the function [`retrace_into`] has it.
+    ///
+    /// # Errors
+    ///
+    /// Those of [`retrace_into`], and [`BadLayer`](Refusal::BadLayer) before
+    /// [`OffThePlate`](Refusal::OffThePlate), which alters no slice either.
+    pub fn retrace_into(
+        &self,
+        size: Size,
+        strategy: StartPointStrategy,
+        path: &mut [f64],
+        marks: &mut [u32],
+        work: &mut [u32],
+        distances: &mut [f64],
+    ) -> Result<Counts, Refusal> {
+        let result = c::retrace(
+            self.points,
+            self.lengths,
+            self.layers,
+            size.width,
+            size.height,
+            strategy.is_inside(),
+            path,
+            marks,
+            work,
+            distances,
+        );
+        self.accepted(result.number, result.place)?;
+        Ok(Counts {
+            points: result.points as usize,
+            cuts: result.cuts as usize,
+            back_steps: result.back_steps as usize,
+            jumps: result.jumps as usize,
+        })
+    }
 }
 
 #[cfg(test)]

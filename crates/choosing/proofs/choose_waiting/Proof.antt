@@ -9,7 +9,7 @@ closest-requires : tie.Need-closest-requires
 closest-requires c κs = search needs
 
 returns : tie.Need-returns
-returns c = λ xs g ws l h. none-chosen _ _ _ _ (c .before .before .closest .ensures .1) xs g ws l h (c .if1 .taken)
+returns c = λ p xs g ws e l h. none-chosen _ _ _ _ _ (c .before .before .closest .ensures .1) p xs g ws e l h (c .if1 .taken)
 
 cast-number : tie.Need-cast-number
 cast-number c = search needs
@@ -25,8 +25,8 @@ shared-slice-read-last c = search needs
 
 sub-last : tie.Need-sub-last
 sub-last c =
-    let a = c .before .before .before .before .before .before .before .args in
-    let w = leader-waits (a .lay) (a .distances .now) (a .work .now) _ (c .before .before .before .before .closest .ensures .1) (c .before .before .if1 .left) in
+    let a = c .before .before .before .before .before .before .before .before .args in
+    let w = leader-waits (a .lay) (a .layers .now) (a .distances .now) (a .work .now) _ (c .before .before .before .before .closest .ensures .1) (c .before .before .if1 .left) in
     omega (arith, w)
 
 add-f : tie.Need-add-f
@@ -48,9 +48,9 @@ shared-slice-read-entry : tie.Need-shared-slice-read-entry
 shared-slice-read-entry c = search needs
 
 returns-2 : tie.Need-returns-2
-returns-2 c = λ xs g ws l h.
+returns-2 c = λ p xs g ws e l h.
     let b = c .before .before .before .before .before .before in
-    candidate-chosen _ _ _ _ (b .before .before .closest .ensures .1) xs g ws l h (b .if1 .left)
+    candidate-chosen _ _ _ _ _ (b .before .before .closest .ensures .1) p xs g ws e l h (b .if1 .left)
 
 pub choose-waiting-spec : {M : Type 1} → statement M
 choose-waiting-spec =

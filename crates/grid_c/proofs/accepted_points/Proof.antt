@@ -7,8 +7,8 @@ use borrow.Author.Needs.{needs}
 use Rattle.grid_c.proofs.accepted_points.Statement.{statement}
 use Rattle.grid_c.proofs.accepted_points.Tie as tie
 
-check-requires : tie.Need-check-requires
-check-requires c κs = search needs
+check-contours-requires : tie.Need-check-contours-requires
+check-contours-requires c κs = search needs
 
 enum-known-checked : tie.Need-enum-known-checked
 enum-known-checked c = search needs
@@ -18,12 +18,12 @@ enum-told c = search needs
 
 returns : tie.Need-returns
 unfolding accepted checkedAnswer
-returns c = refused-none _ _ (ap checkedAnswer (sym (c .enum-told .given .1)) ∙ c .before .before .check .ensures)
+returns c = refused-none _ _ (ap checkedAnswer (sym (c .enum-told .given .1)) ∙ c .before .before .check-contours .ensures)
 
 returns-2 : tie.Need-returns-2
 unfolding accepted given checkedAnswer
-returns-2 c = ap given (ap checkedAnswer (sym (c .before .checked .given .1)) ∙ c .before .before .before .check .ensures)
+returns-2 c = ap given (ap checkedAnswer (sym (c .before .checked .given .1)) ∙ c .before .before .before .check-contours .ensures)
 
 pub accepted-points-spec : {M : Type 1} → statement M
 accepted-points-spec =
-    tie.close (tie.spec check-requires enum-known-checked enum-told returns returns-2)
+    tie.close (tie.spec check-contours-requires enum-known-checked enum-told returns returns-2)

@@ -22,18 +22,18 @@ pick-le false n = omega arith
 set-up-requires : tie.Need-set-up-requires
 unfolding contourOf
 set-up-requires c κs =
-    let s = c .before .before .before .before .before .before .before .before .before in
+    let s = c .before .before .before .before .before .before .before .before .before .before in
     let lent = s .pre .2 in
     (s .pre .0, s .pre .1, lent .small, s .pre .3 .listed, lent .distances-room, lent .work-room)
 
 first-end-requires : tie.Need-first-end-requires
 unfolding contourOf
-first-end-requires c κs = c .before .before .before .before .before .before .before .before .before .before .before .before .before .before .pre .3 .small
+first-end-requires c κs = c .before .before .before .before .before .before .before .before .before .before .before .before .before .before .before .pre .3 .small
 
 emit-requires : tie.Need-emit-requires
 unfolding contourOf
 emit-requires c κs =
-    let s = c .before .before .before .before .before .before .before .before .before .before .before .before .before .before .before .before .before .before in
+    let s = c .before .before .before .before .before .before .before .before .before .before .before .before .before .before .before .before .before .before .before in
     let up = c .before .before .before .before .before .before .before .before .set-up in
     let at = s .pre .3 in
     let v = c .before .before .before .first-end .ensures in
@@ -62,8 +62,8 @@ same-length-4 c = search needs
 returns : tie.Need-returns
 unfolding contourOf orientedOf plate
 returns c =
-    let s = c .before .before .before .before .before .before .before .before .before .before .before .before .before .before .before .before .before .before .before .before .before .before .before .before .before .before in
-    λ p e f.
+    let s = c .before .before .before .before .before .before .before .before .before .before .before .before .before .before .before .before .before .before .before .before .before .before .before .before .before .before .before in
+    λ p e f y.
     start-full (s .args .points .now) p (s .args .g) (c .before .before .before .before .before .before .before .before .before .before .before .before .before .before .before .before .set-up .result) (s .args .room) (orientedOf (s .args .s)) _ _ _ _ _ _ _ _
     (record {
       start = c .before .before .before .before .before .before .before .before .before .before .before .before .before .before .before .before .set-up .ensures .0;
@@ -82,8 +82,8 @@ returns c =
 seed-caches-requires : tie.Need-seed-caches-requires
 unfolding contourOf orientedOf plate
 seed-caches-requires c κs =
-    let s = c .before .before .before .before .before .before .before .before .before .before .before .before .before .before .before .before .before .before .before .before .before .before .before .before .before .before .before .before .before in
-    let p = plate (s .args .points .now) (s .args .lengths .now) 0 0 Outside in
+    let s = c .before .before .before .before .before .before .before .before .before .before .before .before .before .before .before .before .before .before .before .before .before .before .before .before .before .before .before .before .before .before in
+    let p = plate (s .args .points .now) (s .args .lengths .now) (s .args .layers .now) 0 0 Outside in
     start-querying (s .args .points .now) p (s .args .g) (c .before .before .before .before .before .before .before .before .before .before .before .before .before .before .before .before .before .before .before .set-up .result) (s .args .room) (orientedOf (s .args .s)) _ _ _ _ _ _ _ _
     (record {
       start = c .before .before .before .before .before .before .before .before .before .before .before .before .before .before .before .before .before .before .before .set-up .ensures .0;
@@ -102,14 +102,16 @@ seed-caches-requires c κs =
 join-waiting-requires : tie.Need-join-waiting-requires
 unfolding contourOf orientedOf plate
 join-waiting-requires c κs =
-    let s = c .before .before .before .before .before .before .before .before .before .before .before .before .before .before .before .before .before .before .before .before .before .before .before .before .before .before .before .before .before .before .before .before .before .before .before .before .before .before in
-    let p = plate (s .args .points .now) (s .args .lengths .now) 0 0 Outside in (
+    let s = c .before .before .before .before .before .before .before .before .before .before .before .before .before .before .before .before .before .before .before .before .before .before .before .before .before .before .before .before .before .before .before .before .before .before .before .before .before .before .before in
+    let p = plate (s .args .points .now) (s .args .lengths .now) (s .args .layers .now) 0 0 Outside in (
       p,
       _,
       _,
       _,
       _,
       refl,
+      refl,
+      omega (arith, c .before .before .before .before .before .before .before .before .before .before .before .before .before .before .before .before .before .before .before .before .before .before .before .before .before .before .before .before .set-up .ensures .6, s .pre .4),
       start-joining (s .args .points .now) p (s .args .g) (c .before .before .before .before .before .before .before .before .before .before .before .before .before .before .before .before .before .before .before .before .before .before .before .before .before .before .before .before .set-up .result) (s .args .room) (orientedOf (s .args .s)) _ _ _ _ _ _ _ _
           (record {
             start = c .before .before .before .before .before .before .before .before .before .before .before .before .before .before .before .before .before .before .before .before .before .before .before .before .before .before .before .before .set-up .ensures .0;
@@ -145,10 +147,10 @@ same-length-8 c =
 returns-2 : tie.Need-returns-2
 unfolding contourOf orientedOf plate
 returns-2 c =
-    let s = c .before .before .before .before .before .before .before .before .before .before .before .before .before .before .before .before .before .before .before .before .before .before .before .before .before .before .before .before .before .before .before .before .before .before .before .before .before .before .before .before .before .before .before .before .before .before .before in
-    λ p e f.
+    let s = c .before .before .before .before .before .before .before .before .before .before .before .before .before .before .before .before .before .before .before .before .before .before .before .before .before .before .before .before .before .before .before .before .before .before .before .before .before .before .before .before .before .before .before .before .before .before .before .before in
+    λ p e f y.
     rw (← retrace-is p (s .args .g) (orientedOf (s .args .s)))
-    (c .before .before .before .before .before .before .before .before .join-waiting .ensures p _ _ _ _ e
+    (c .before .before .before .before .before .before .before .before .join-waiting .ensures p _ _ _ _ e y
     (start-joining (s .args .points .now) p (s .args .g) (c .before .before .before .before .before .before .before .before .before .before .before .before .before .before .before .before .before .before .before .before .before .before .before .before .before .before .before .before .before .before .before .before .before .before .before .before .before .set-up .result) (s .args .room) (orientedOf (s .args .s)) _ _ _ _ _ _ _ _
     (record {
       start = c .before .before .before .before .before .before .before .before .before .before .before .before .before .before .before .before .before .before .before .before .before .before .before .before .before .before .before .before .before .before .before .before .before .before .before .before .before .set-up .ensures .0;

@@ -77,6 +77,7 @@ returns c =
       begin-ready _ _ _ _ (k .last .0) _ _ _ (e .0) (e .1) (e .2) (e .3) (e .4) (o .4) l (k .ensures .1) start long same,
       begin-flags _ _ _ _ (k .last .0) _ _ _ (e .0) (e .1) (e .2) (e .3) (e .4) (o .4) l (k .ensures .1) start long same,
       begin-lines _ _ _ _ (k .last .0) _ _ _ (e .0) (e .1) (e .2) (e .3) (e .4) (o .4) l (k .ensures .1) start long same,
+      o .4,
     )
 
 pub set-up-spec : {M : Type 1} → statement M

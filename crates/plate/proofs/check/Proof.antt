@@ -1,58 +1,121 @@
 -- `plate::check` meets its contract. Assumes nothing.
-use mathlib.Core.Path.{_≡_, refl, sym, ap, _∙_}
+use mathlib.Core.Path.{_≡_, sym, ap, _∙_}
+use mathlib.Core.List.{List}
+use Prim.Native.Nat.{ℕ}
+use native.Mathlib.Omega.{arith}
+use lib.Ieee.{Float}
+use lib.ListN.{length}
 use borrow.Author.Tests.{lt-ltb, le-ltb, eq-eqb, ne-eqb}
-use Rattle.rules.specs.HandedOver.{checked, refuseIf, refusal}
-use Rattle.plate.specs.Answer.{checkedAnswer}
 use borrow.Author.Needs.{needs}
+use Rattle.rules.specs.Tools.{sum}
+use Rattle.rules.specs.HandedOver.{Answer, gives, refuseIf, refusal, counted, layered, onPlate, checked}
+use Rattle.path.specs.Accepted.{counted-gives}
+use Rattle.plate.specs.Answer.{checkedAnswer}
+use Rattle.plate.specs.Refused.{counted-refuses, counted-passes}
 use Rattle.plate.proofs.check.Statement.{statement}
 use Rattle.plate.proofs.check.Tie as tie
+use Rattle.plate.proofs.check.Reads as reads
+use Rattle.plate.proofs.check.Lts as lts
+use Rattle.plate.proofs.check_counts.Reads as check-counts-reads
+use Rattle.plate.proofs.first_bad.Reads as first-bad-reads
+use Rattle.plate.proofs.check_points.Reads as check-points-reads
+
+-- where refusals 1 to 3 have let points and lengths pass
+abbrev Told : Type 0
+Told = lts.After-enum-told (check-counts-reads.Asked, check-counts-reads.Learnt, first-bad-reads.Asked, first-bad-reads.Learnt, check-points-reads.Asked, check-points-reads.Learnt) reads.Pre reads.Post
+
+abbrev points : Told → List Float
+points c = c .before .before .before .before .before .before .args .points .now
+
+abbrev lengths : Told → List ℕ
+lengths c = c .before .before .before .before .before .before .args .lengths .now
+
+abbrev layers : Told → List ℕ
+layers c = c .before .before .before .before .before .before .args .layers .now
+
+sound : (c : Told) → gives (c .enum-told .given .0 .0) ≡ counted (points c) (lengths c) (gives (sum (lengths c)))
+unfolding checkedAnswer
+sound c = ap checkedAnswer (sym (c .enum-told .given .1)) ∙ c .before .before .check-counts .ensures
+
+passes : {A : Type 0} (c : Told) (later : Answer A) → counted (points c) (lengths c) later ≡ later
+passes c later = counted-passes (points c) (lengths c) _ _ later (sym (sound c))
+
+check-counts-requires : tie.Need-check-counts-requires
+check-counts-requires c κs = search needs
+
+enum-told : tie.Need-enum-told
+enum-told c = search needs
+
+enum-told-2 : tie.Need-enum-told-2
+enum-told-2 c = search needs
+
+-- what refusals 1 to 3 let pass is tested by 13 and 4
+abbrev later : Told → Answer ℕ
+later c = layered (length (lengths c)) (layers c) (onPlate (points c) (gives (sum (lengths c))))
 
 returns : tie.Need-returns
-unfolding checkedAnswer checked refuseIf refusal
-returns c = simp (lt-ltb _ _ (c .if1 .taken))
+unfolding checkedAnswer checked
+returns c =
+    let a = c .before .before .before .before .before .before .args in
+    ap checkedAnswer (c .enum-told2 .given .1)
+    ∙ counted-refuses (a .points .now) (a .lengths .now) _ _ _ (ap checkedAnswer (sym (c .enum-told2 .given .1)) ∙ c .before .before .check-counts .ensures)
 
-point-count-requires : tie.Need-point-count-requires
-point-count-requires c κs = search needs
+cast-t10 : tie.Need-cast-t10
+cast-t10 c =
+    let t = c .before in
+    omega (arith, counted-gives (points t) (lengths t) _ _ (sym (sound t)))
 
 returns-2 : tie.Need-returns-2
-unfolding checkedAnswer checked refuseIf refusal
-returns-2 c = simp (← c .before .point-count .ensures, le-ltb _ _ (c .before .before .if1 .left), lt-ltb _ _ (c .if2 .taken))
+unfolding checkedAnswer checked layered refuseIf refusal
+returns-2 c =
+    let t = c .before in
+    rw (passes t (later t)) (simp (ne-eqb _ _ (c .if1 .taken)))
 
-mul-if3 : tie.Need-mul-if3
-mul-if3 c = search needs
-
-returns-3 : tie.Need-returns-3
-unfolding checkedAnswer checked refuseIf refusal
-returns-3 c = simp (← c .before .before .point-count .ensures, le-ltb _ _ (c .before .before .before .if1 .left), le-ltb _ _ (c .before .if2 .left), ne-eqb _ _ (c .if3 .taken))
-
-first-off-requires : tie.Need-first-off-requires
-first-off-requires c κs = search needs
+first-bad-requires : tie.Need-first-bad-requires
+first-bad-requires c κs = search needs
 
 cast-t12 : tie.Need-cast-t12
-cast-t12 c = search needs
+cast-t12 c =
+    let t = c .before .before .before in
+    omega (arith, c .if2 .taken, c .before .before .if1 .left, counted-gives (points t) (lengths t) _ _ (sym (sound t)))
+
+returns-3 : tie.Need-returns-3
+unfolding checkedAnswer checked layered refuseIf refusal
+returns-3 c =
+    let t = c .before .before .before in
+    rw (passes t (later t)) (simp (eq-eqb _ _ (c .before .before .if1 .left), ← c .before .first-bad .ensures, lt-ltb _ _ (c .if2 .taken)))
+
+-- what refusals 1 to 3 answered
+so-far : (c : Told) → checkedAnswer (c .before .before .check-counts .result) ≡ gives (sum (lengths c))
+so-far c = c .before .before .check-counts .ensures ∙ passes c (gives (sum (lengths c)))
+
+check-points-requires : tie.Need-check-points-requires
+check-points-requires c κs =
+    let t = c .before .before .before in
+    omega (arith, counted-gives (points t) (lengths t) _ _ (sym (sound t)))
 
 returns-4 : tie.Need-returns-4
-unfolding checkedAnswer checked refuseIf refusal
-returns-4 c = simp (← c .before .before .before .before .point-count .ensures, le-ltb _ _ (c .before .before .before .before .before .if1 .left), le-ltb _ _ (c .before .before .before .if2 .left), eq-eqb _ _ (c .before .before .if3 .left), ← c .before .first-off .ensures, lt-ltb _ _ (c .if4 .taken))
-
-cast-t14 : tie.Need-cast-t14
-cast-t14 c = search needs
-
-returns-5 : tie.Need-returns-5
-unfolding checkedAnswer checked refuseIf refusal
-returns-5 c = simp (← c .before .before .before .before .point-count .ensures, le-ltb _ _ (c .before .before .before .before .before .if1 .left), le-ltb _ _ (c .before .before .before .if2 .left), eq-eqb _ _ (c .before .before .if3 .left), ← c .before .first-off .ensures, le-ltb _ _ (c .if4 .left))
+unfolding checked layered refuseIf
+returns-4 c =
+    let t = c .before .before .before .before in
+    c .check-points .ensures
+    ∙ ap (onPlate (points t)) (so-far t)
+    ∙ sym
+    (passes t (later t)
+    ∙ simp (eq-eqb _ _ (c .before .before .before .if1 .left), ← c .before .before .first-bad .ensures, le-ltb _ _ (c .before .if2 .left)))
 
 pub check-spec : {M : Type 1} → statement M
 check-spec =
     tie.close
     (tie.spec
+    check-counts-requires
+    enum-told
+    enum-told-2
     returns
-    point-count-requires
+    cast-t10
     returns-2
-    mul-if3
-    returns-3
-    first-off-requires
+    first-bad-requires
     cast-t12
-    returns-4
-    cast-t14
-    returns-5)
+    returns-3
+    check-points-requires
+    returns-4)

@@ -14,21 +14,21 @@ use Rattle.retrace.proofs.retrace_call.Tie as tie
 
 -- the plate that is handed over
 abbrev handed : tie.Start → Plate
-handed s = plate (s .args .points .now) (s .args .lengths .now) (s .args .width) (s .args .height) (s .args .strategy)
+handed s = plate (s .args .points .now) (s .args .lengths .now) (s .args .layers .now) (s .args .width) (s .args .height) (s .args .strategy)
 
 -- a plate that passed the checks
 sound : (c : tie.After-enum-told) →
-    let a = c .before .before .before .before .before .before .before .before .before .args in
-    checked (a .points .now) (a .lengths .now) (gives (sum (a .lengths .now))) ≡ gives (c .enum-told .given .0 .0)
+    let a = c .before .before .before .before .before .before .before .before .before .before .args in
+    checked (a .points .now) (a .lengths .now) (a .layers .now) (gives (sum (a .lengths .now))) ≡ gives (c .enum-told .given .0 .0)
 unfolding checkedAnswer
 sound c = sym (ap checkedAnswer (sym (c .enum-told .given .1)) ∙ c .before .before .check .ensures)
 
-accepted : (c : tie.After-enum-told) → let a = c .before .before .before .before .before .before .before .before .before .args in Accepted (a .points .now) (a .lengths .now)
-accepted c = checked-gives _ _ _ _ (sound c) .0
+accepted : (c : tie.After-enum-told) → let a = c .before .before .before .before .before .before .before .before .before .before .args in Accepted (a .points .now) (a .lengths .now)
+accepted c = checked-gives _ _ _ _ _ (sound c) .0
 
 -- the room that was worked out is C
 room-is : (c : tie.After-least2) →
-    let a = c .before .before .before .before .before .before .before .before .before .before .before .args in
+    let a = c .before .before .before .before .before .before .before .before .before .before .before .before .args in
     c .least2 .result ≡ retraceRoom (length (a .path .now)) (length (a .marks .now))
 unfolding retraceRoom
 room-is c = omega (arith, c .least2 .ensures, c .before .least .ensures)
@@ -42,7 +42,7 @@ enum-known-checked c = search needs
 returns : tie.Need-returns
 unfolding retraceAnswer plate checkedAnswer
 returns c =
-    let s = c .before .before .before .before .before .before .before .before .before .before in
+    let s = c .before .before .before .before .before .before .before .before .before .before .before in
     let e = ap checkedAnswer (sym (c .before .checked .given .1)) ∙ c .before .before .before .check .ensures in
     let m =
     met-refused (handed s) (s .args .path .now) (s .args .marks .now) (s .args .work .now) (s .args .distances .now) _ _ e in
@@ -75,7 +75,7 @@ add-if1-3 c = let a = accepted (c .before .before) in omega (arith, c .least2 .e
 returns-2 : tie.Need-returns-2
 unfolding retraceAnswer refusal plate
 returns-2 c =
-    let s = c .before .before .before .before .before .before .before .before .before .before .before .before in
+    let s = c .before .before .before .before .before .before .before .before .before .before .before .before .before in
     let a = accepted (c .before .before .before) in
     let m =
     met-short (handed s) (s .args .path .now) (s .args .marks .now) (s .args .work .now) (s .args .distances .now) _ _ (sound (c .before .before .before)) (omega (arith, c .if1 .taken, room-is (c .before), a .counted)) in
@@ -84,7 +84,7 @@ returns-2 c =
 returns-3 : tie.Need-returns-3
 unfolding retraceAnswer refusal plate
 returns-3 c =
-    let s = c .before .before .before .before .before .before .before .before .before .before .before .before .before in
+    let s = c .before .before .before .before .before .before .before .before .before .before .before .before .before .before in
     let a = accepted (c .before .before .before .before) in
     let m =
     met-short-distances (handed s) (s .args .path .now) (s .args .marks .now) (s .args .work .now) (s .args .distances .now) _ _ (sound (c .before .before .before .before))
@@ -96,7 +96,7 @@ cast-c c = search needs
 
 join-retrace-requires : tie.Need-join-retrace-requires
 join-retrace-requires c κs =
-    let s = c .before .before .before .before .before .before .before .before .before .before .before .before .before .before .before .before .before in
+    let s = c .before .before .before .before .before .before .before .before .before .before .before .before .before .before .before .before .before .before in
     let a = accepted (c .before .before .before .before .before .before .before .before) in
     let e = c .before .before .before .before .before .before .least2 .ensures in
     let f = c .before .before .before .before .before .before .before .least .ensures in (
@@ -108,6 +108,7 @@ join-retrace-requires c κs =
         work-room = omega (arith, c .before .before .before .before .before .if1 .left, a .counted);
         distances-room = omega (arith, c .before .before .before .before .if2 .left);
       },
+      checked-gives _ _ _ _ _ (sound (c .before .before .before .before .before .before .before .before)) .1 .counted,
     )
 
 same-length : tie.Need-same-length
@@ -125,7 +126,7 @@ same-length-4 c = search needs
 returns-4 : tie.Need-returns-4
 unfolding retraceAnswer refusal plate
 returns-4 c =
-    let s = c .before .before .before .before .before .before .before .before .before .before .before .before .before .before .before .before .before .before .before .before .before .before .before .before .before .before .before in
+    let s = c .before .before .before .before .before .before .before .before .before .before .before .before .before .before .before .before .before .before .before .before .before .before .before .before .before .before .before .before in
     let a = accepted (c .before .before .before .before .before .before .before .before .before .before .before .before .before .before .before .before .before .before) in
     let r = room-is (c .before .before .before .before .before .before .before .before .before .before .before .before .before .before .before .before) in
     let m =
@@ -136,10 +137,10 @@ returns-4 c =
 
 count-marks-requires : tie.Need-count-marks-requires
 count-marks-requires c κs =
-    let s = c .before .before .before .before .before .before .before .before .before .before .before .before .before .before .before .before .before .before .before .before .before .before .before .before .before .before .before .before in
+    let s = c .before .before .before .before .before .before .before .before .before .before .before .before .before .before .before .before .before .before .before .before .before .before .before .before .before .before .before .before .before in
     let e = c .before .before .before .before .before .before .before .before .before .before .before .before .before .before .before .before .before .least2 .ensures in
     let f = c .before .before .before .before .before .before .before .before .before .before .before .before .before .before .before .before .before .before .least .ensures in
-    omega (arith, c .before .if3 .left, e, f, c .before .before .before .before .before .before .before .before .before .before .join-retrace .kept .1 .1 .1 .1 .1 .1 .1 .0)
+    omega (arith, c .before .if3 .left, e, f, c .before .before .before .before .before .before .before .before .before .before .join-retrace .kept .1 .1 .1 .1 .1 .1 .1 .1 .0)
 
 same-length-5 : tie.Need-same-length-5
 same-length-5 c = search needs
@@ -156,7 +157,7 @@ same-length-8 c = search needs
 returns-5 : tie.Need-returns-5
 unfolding retraceAnswer plate
 returns-5 c =
-    let s = c .before .before .before .before .before .before .before .before .before .before .before .before .before .before .before .before .before .before .before .before .before .before .before .before .before .before .before .before .before in
+    let s = c .before .before .before .before .before .before .before .before .before .before .before .before .before .before .before .before .before .before .before .before .before .before .before .before .before .before .before .before .before .before in
     let a = accepted (c .before .before .before .before .before .before .before .before .before .before .before .before .before .before .before .before .before .before .before .before) in
     let r = room-is (c .before .before .before .before .before .before .before .before .before .before .before .before .before .before .before .before .before .before) in
     let n = c .before .before .if3 .left in

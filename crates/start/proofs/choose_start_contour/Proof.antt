@@ -10,20 +10,21 @@ use Rattle.rules.specs.Start.{start}
 use Rattle.rules.specs.declared.Point.{Point}
 use mathlib.Core.Option.{none}
 use Rattle.plate.specs.Reading.{sum-step}
-use Rattle.start.specs.Oriented.{leadOf}
+use Rattle.start.specs.Oriented.{leadOf, LeadIn}
 use Rattle.start.proofs.Ends.{led, led-start, led-step, led-end}
 use Rattle.start.proofs.choose_start_contour.Statement.{statement}
 use Rattle.start.proofs.choose_start_contour.Tie as tie
 
 abbrev Inv-loop : tie.InvT-loop
-Inv-loop points lengths width height strategy center lead₀ first₀ i₀ lead first i =
+Inv-loop points lengths layers width height strategy center lead₀ first₀ i₀ lead first i =
     (i ≤ length lengths)
+    × LeadIn (length layers) lead
     × (first + sum (drop i lengths) ≡ sum lengths)
-    × (let p = plate points lengths width height strategy in
+    × (let p = plate points lengths layers width height strategy in
     led p center strategy (leadOf lead) (contoursFrom i first (drop i lengths)) ≡ start p)
 
 abbrev μ-loop : tie.MeasureT-loop
-μ-loop points lengths width height strategy center lead₀ first₀ i₀ lead first i = length lengths - i
+μ-loop points lengths layers width height strategy center lead₀ first₀ i₀ lead first i = length lengths - i
 
 image-center-requires : tie.Need-image-center-requires Inv-loop μ-loop
 image-center-requires c κs = search needs
@@ -31,9 +32,9 @@ image-center-requires c κs = search needs
 loop-holds : tie.Need-loop-holds Inv-loop μ-loop
 unfolding plate leadOf
 loop-holds c =
-    let a = c .before .before .before .args in
-    let p = plate (a .points .now) (a .lengths .now) (a .width) (a .height) (a .strategy) in
-    (omega arith, omega arith, ap (λ (q : Point). led p q (a .strategy) none (contoursFrom 0 0 (a .lengths .now))) (c .image-center .ensures) ∙ sym (led-start p))
+    let a = c .before .before .before .before .args in
+    let p = plate (a .points .now) (a .lengths .now) (a .layers .now) (a .width) (a .height) (a .strategy) in
+    (omega arith, tt, omega arith, ap (λ (q : Point). led p q (a .strategy) none (contoursFrom 0 0 (a .lengths .now))) (c .image-center .ensures) ∙ sym (led-start p))
 
 mul-size : tie.Need-mul-size Inv-loop μ-loop
 mul-size c = search needs
@@ -47,16 +48,16 @@ cast-try-contour c = search needs
 try-contour-requires : tie.Need-try-contour-requires Inv-loop μ-loop
 try-contour-requires c κs =
     let l = c .before .before .loop in
-    let a = c .before .before .before .before .before .before .args in
+    let a = c .before .before .before .before .before .before .before .args in
     let s = sum-step (a .lengths .now) (l .i) (c .before .loop-test .taken) in
-    let p = c .before .before .before .before .before .before .pre in
-    (omega (arith, l .inv .1, p .points), omega (arith, l .inv .1, p .counted))
+    let p = c .before .before .before .before .before .before .before .pre in
+    (omega (arith, l .inv .2, p .0 .points), omega (arith, l .inv .2, p .0 .counted), omega (arith, p .1, c .before .loop-test .taken), l .inv .1)
 
 add-first : tie.Need-add-first Inv-loop μ-loop
 add-first c =
     let l = c .before .before .before .loop in
-    let a = c .before .before .before .before .before .before .before .args in
-    omega (arith, l .inv .1, sum-step (a .lengths .now) (l .i) (c .before .before .loop-test .taken), c .before .before .before .before .before .before .before .pre .points)
+    let a = c .before .before .before .before .before .before .before .before .args in
+    omega (arith, l .inv .2, sum-step (a .lengths .now) (l .i) (c .before .before .loop-test .taken), c .before .before .before .before .before .before .before .before .pre .0 .points)
 
 add-i : tie.Need-add-i Inv-loop μ-loop
 add-i c = search needs
@@ -68,19 +69,20 @@ loop-again : tie.Need-loop-again Inv-loop μ-loop
 unfolding plate
 loop-again c =
     let l = c .before .before .before .loop in
-    let a = c .before .before .before .before .before .before .before .args in
-    let p = plate (a .points .now) (a .lengths .now) (a .width) (a .height) (a .strategy) in
+    let a = c .before .before .before .before .before .before .before .before .args in
+    let p = plate (a .points .now) (a .lengths .now) (a .layers .now) (a .width) (a .height) (a .strategy) in
     let h = c .before .before .loop-test .taken in (
       omega arith,
-      omega (arith, l .inv .1, sum-step (a .lengths .now) (l .i) h),
-      sym (led-step p _ _ _ _ (a .lengths .now) (l .i) (l .first) h (c .try-contour .ensures p refl)) ∙ l .inv .2,
+      c .try-contour .ensures .0,
+      omega (arith, l .inv .2, sum-step (a .lengths .now) (l .i) h),
+      sym (led-step p _ _ _ _ (a .lengths .now) (l .i) (l .first) h (c .try-contour .ensures .1 p refl refl)) ∙ l .inv .3,
     )
 
 returns : tie.Need-returns Inv-loop μ-loop
 returns c =
     let l = c .before .loop in
-    let a = c .before .before .before .before .before .args in
-    sym (led-end (plate (a .points .now) (a .lengths .now) (a .width) (a .height) (a .strategy)) _ _ _ (a .lengths .now) (l .i) (l .first) (c .loop-test .left)) ∙ l .inv .2
+    let a = c .before .before .before .before .before .before .args in
+    sym (led-end (plate (a .points .now) (a .lengths .now) (a .layers .now) (a .width) (a .height) (a .strategy)) _ _ _ (a .lengths .now) (l .i) (l .first) (c .loop-test .left)) ∙ l .inv .3
 
 pub choose-start-contour-spec : {M : Type 1} → statement M
 choose-start-contour-spec =

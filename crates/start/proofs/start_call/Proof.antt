@@ -19,9 +19,9 @@ enum-known-checked c = search needs
 returns : tie.Need-returns
 unfolding startAnswer startCall plate checkedAnswer
 returns c =
-    let a = c .before .before .before .before .before .before .args in
+    let a = c .before .before .before .before .before .before .before .args in
     let e = ap checkedAnswer (sym (c .before .checked .given .1)) ∙ c .before .before .before .check .ensures in
-    checked-refuses (a .points .now) (a .lengths .now) _ _ _ e
+    checked-refuses (a .points .now) (a .lengths .now) (a .layers .now) _ _ _ e
 
 enum-told : tie.Need-enum-told
 enum-told c = search needs
@@ -29,9 +29,10 @@ enum-told c = search needs
 choose-start-contour-requires : tie.Need-choose-start-contour-requires
 unfolding checkedAnswer
 choose-start-contour-requires c κs =
-    let a = c .before .before .before .before .before .args in
+    let a = c .before .before .before .before .before .before .args in
     let e = ap checkedAnswer (sym (c .enum-told .given .1)) ∙ c .before .before .check .ensures in
-    checked-gives (a .points .now) (a .lengths .now) _ _ (sym e) .0
+    let g = checked-gives (a .points .now) (a .lengths .now) (a .layers .now) _ _ (sym e) in
+    (g .0, g .1 .counted)
 
 enum-known-lead : tie.Need-enum-known-lead
 enum-known-lead c = search needs
@@ -42,18 +43,18 @@ enum-told-2 c = search needs
 returns-2 : tie.Need-returns-2
 unfolding startAnswer startCall plate checkedAnswer refusal startOr leadOf
 returns-2 c =
-    let a = c .before .before .before .before .before .before .before .before .args in
+    let a = c .before .before .before .before .before .before .before .before .before .args in
     let e = ap checkedAnswer (sym (c .before .before .before .enum-told .given .1)) ∙ c .before .before .before .before .before .check .ensures in
     let l = ap leadOf (sym (c .enum-told2 .given .1)) ∙ c .before .before .choose-start-contour .ensures in
-    ap startOr l ∙ sym (checked-passes (a .points .now) (a .lengths .now) _ _ _ (sym e))
+    ap startOr l ∙ sym (checked-passes (a .points .now) (a .lengths .now) (a .layers .now) _ _ _ (sym e))
 
 returns-3 : tie.Need-returns-3
 unfolding startAnswer startCall plate checkedAnswer startOr leadOf orientedOf contourOf
 returns-3 c =
-    let a = c .before .before .before .before .before .before .before .before .before .args in
+    let a = c .before .before .before .before .before .before .before .before .before .before .args in
     let e = ap checkedAnswer (sym (c .before .before .before .before .enum-told .given .1)) ∙ c .before .before .before .before .before .before .check .ensures in
     let l = ap leadOf (sym (c .before .lead .given .1)) ∙ c .before .before .before .choose-start-contour .ensures in
-    ap startOr l ∙ sym (checked-passes (a .points .now) (a .lengths .now) _ _ _ (sym e))
+    ap startOr l ∙ sym (checked-passes (a .points .now) (a .lengths .now) (a .layers .now) _ _ _ (sym e))
 
 pub start-call-spec : {M : Type 1} → statement M
 start-call-spec =

@@ -16,13 +16,13 @@ use Rattle.straight.proofs.join_straight_line.Tie as tie
 
 -- the plate that is handed over
 abbrev handed : tie.Start → Plate
-handed s = plate (s .args .points .now) (s .args .lengths .now) (s .args .width) (s .args .height) (s .args .strategy)
+handed s = plate (s .args .points .now) (s .args .lengths .now) (s .args .layers .now) (s .args .width) (s .args .height) (s .args .strategy)
 
 -- the packed contours of the order are all in the work slice
-all-there : (c : tie.After-optimize-path-order) → c .optimize-path-order .result ≤ length (c .optimize-path-order .last .1 .1 .1 .1 .1 .0)
+all-there : (c : tie.After-optimize-path-order) → c .optimize-path-order .result ≤ length (c .optimize-path-order .last .1 .1 .1 .1 .1 .1 .0)
 all-there c =
     let o = c .optimize-path-order in
-    words-there (o .result) (o .last .1 .1 .1 .1 .1 .0) (order (handed (c .before .before .before .before .before .before))) (o .ensures .0) (o .ensures .1)
+    words-there (o .result) (o .last .1 .1 .1 .1 .1 .1 .0) (order (handed (c .before .before .before .before .before .before .before))) (o .ensures .0) (o .ensures .1)
 
 optimize-path-order-requires : tie.Need-optimize-path-order-requires
 optimize-path-order-requires c κs = search needs
@@ -36,7 +36,7 @@ slice-aggregate-write-contours c = simp length-take (omega (arith, all-there (c 
 write-contours-requires : tie.Need-write-contours-requires
 unfolding plate
 write-contours-requires c κs =
-    let s = c .before .before .before .before .before .before .before .before .before .before in
+    let s = c .before .before .before .before .before .before .before .before .before .before .before in
     (rw (c .before .before .before .before .optimize-path-order .ensures .1) (order-readable (handed s) (s .pre .0)), omega (arith, s .pre .2))
 
 same-length : tie.Need-same-length
@@ -48,7 +48,7 @@ same-length-2 c = search needs
 returns : tie.Need-returns
 unfolding plate
 returns c =
-    let s = c .before .before .before .before .before .before .before .before .before .before .before .before .before in
+    let s = c .before .before .before .before .before .before .before .before .before .before .before .before .before .before in
     let e = c .before .before .before .before .before .before .before .optimize-path-order .ensures .1 in
     c .before .before .write-contours .ensures
     ∙ ap (λ (vs : List ℕ). over (take (2 * s .args .room) (coordinates (s .args .points .now) vs)) (s .args .path .now))

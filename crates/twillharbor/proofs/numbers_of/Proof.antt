@@ -25,6 +25,9 @@ enum-known-r-3 c = search needs
 enum-told-4 : tie.Need-enum-told-4
 enum-told-4 c = search needs
 
+enum-known-r-4 : tie.Need-enum-known-r-4
+enum-known-r-4 c = search needs
+
 returns : tie.Need-returns
 unfolding refusal
 returns c = rw (c .enum-told .given .1)
@@ -53,6 +56,10 @@ returns-7 : tie.Need-returns-7
 unfolding refusal
 returns-7 c = rw (c .enum-told4 .given .1)
 
+returns-8 : tie.Need-returns-8
+unfolding refusal
+returns-8 c = rw (c .before .r4 .given .1)
+
 pub numbers-of-spec : {M : Type 1} → statement M
 numbers-of-spec =
     tie.close
@@ -64,10 +71,12 @@ numbers-of-spec =
     enum-known-r-2
     enum-known-r-3
     enum-told-4
+    enum-known-r-4
     returns
     returns-2
     returns-3
     returns-4
     returns-5
     returns-6
-    returns-7)
+    returns-7
+    returns-8)

@@ -4,7 +4,7 @@ use Prim.Native.Nat.{ℕ}
 use native.Mathlib.Omega.{arith}
 use Rattle.rules.specs.HandedOver.{refuses, refusal, retraceAnswer}
 use Rattle.rules.specs.declared.Refusal.{Refusal}
-use Rattle.rules.specs.declared.Refusal.the-variants.{TooManyContours, TooManyPoints, Miscounted, OffThePlate, WorkShort, Full, Blank}
+use Rattle.rules.specs.declared.Refusal.the-variants.{TooManyContours, TooManyPoints, Miscounted, OffThePlate, WorkShort, Full, Blank, BadLayer}
 use Rattle.plate.specs.Refused.{refused}
 use Rattle.twillharbor.specs.Results.{retraceResult, countsOf}
 use borrow.Author.Needs.{needs}
@@ -21,6 +21,7 @@ not-zero (OffThePlate i) n k h z = let e : _≡_ {A = ℕ} 4 n = cc in omega ari
 not-zero (WorkShort i) n k h z = let e : _≡_ {A = ℕ} 5 n = cc in omega arith
 not-zero (Full i) n k h z = let e : _≡_ {A = ℕ} 6 n = cc in omega arith
 not-zero Blank n k h z = let e : _≡_ {A = ℕ} 7 n = cc in omega arith
+not-zero (BadLayer i) n k h z = let e : _≡_ {A = ℕ} 13 n = cc in omega arith
 
 strategy-of-requires : tie.Need-strategy-of-requires
 strategy-of-requires c κs = search needs
@@ -55,7 +56,7 @@ returns c =
     let k = c .before .before .before .before .before .before .before .before .before .before .before in
     let e = rw (k .before .before .before .before .before .strategy-of .ensures) at (k .retrace-call .ensures) in
     let a = ap retraceAnswer (c .before .answer .given .1) in
-    (ap retraceResult (sym a ∙ e .0 .0), e .0 .1, e .0 .2, e .0 .3, e .0 .4, λ z l. e .1 _ a l)
+    (ap retraceResult (sym a ∙ e .0 .0), e .0 .1, e .0 .2, e .0 .3, e .0 .4, λ z. e .1 _ a)
 
 same-length-5 : tie.Need-same-length-5
 same-length-5 c = search needs
@@ -76,7 +77,7 @@ returns-2 c =
     let e = rw (k .before .before .before .before .before .strategy-of .ensures) at (k .retrace-call .ensures) in
     let a = ap retraceAnswer (c .before .before .answer2 .given .1) in
     let n = c .numbers-of .ensures in
-    (ap retraceResult (sym (refused _ _ _ n) ∙ sym a ∙ e .0 .0), e .0 .1, e .0 .2, e .0 .3, e .0 .4, λ z l. absurd (not-zero _ _ _ n z))
+    (ap retraceResult (sym (refused _ _ _ n) ∙ sym a ∙ e .0 .0), e .0 .1, e .0 .2, e .0 .3, e .0 .4, λ z. absurd (not-zero _ _ _ n z))
 
 pub twillharbor-retrace-spec : {M : Type 1} → statement M
 twillharbor-retrace-spec =

@@ -30,8 +30,8 @@ start-call-requires c κs = search needs
 enum-known-answer : tie.Need-enum-known-answer
 enum-known-answer c = search needs
 
-cast-t13 : tie.Need-cast-t13
-cast-t13 c = search needs
+cast-t14 : tie.Need-cast-t14
+cast-t14 c = search needs
 
 enum-known-answer-2 : tie.Need-enum-known-answer-2
 enum-known-answer-2 c = search needs
@@ -61,7 +61,7 @@ twillharbor-start-spec =
     strategy-of-requires
     start-call-requires
     enum-known-answer
-    cast-t13
+    cast-t14
     enum-known-answer-2
     numbers-of-requires
     returns

@@ -2,30 +2,31 @@
 //!
 //! A row is, in this order:
 //!
-//! - nine words: the number of coordinates, the number of contours, width, height, 1 for Inside
-//!   and 0 for Outside, and the lengths of the path slice, of the marks slice, of the u32 work
-//!   slice and of the f64 work slice;
-//! - the coordinates; the contours' lengths;
+//! - ten words: the number of coordinates, the number of contours, the number of layers, width,
+//!   height, 1 for Inside and 0 for Outside, and the lengths of the path slice, of the marks
+//!   slice, of the u32 work slice and of the f64 work slice;
+//! - the coordinates; the contours' lengths; the layers;
 //! - six words: the call's number, place, points, cuts, back-steps and jumps;
 //! - the whole path slice as the call leaves it, where every element was [`PATH_FILL`];
 //! - the whole marks slice as the call leaves it, where every element was [`MARKS_FILL`].
 //!
-//! A plate has at most 40 coordinates and 12 contours. The path slice and the marks slice have
-//! at most 128 elements each, so that C is at most 64, the u32 work slice at most 16,640 and
-//! the f64 work slice at most 16. What work slices hold is not in the rows: they may hold
-//! anything before the call, and hold the same after a refusal but 6.
+//! A plate has at most 40 coordinates, 12 contours and 16 layers. The path slice and the marks
+//! slice have at most 128 elements each, so that C is at most 64, the u32 work slice at most
+//! 16,640 and the f64 work slice at most 16. What work slices hold is not in the rows: they may
+//! hold anything before the call, and hold the same after a refusal but 6.
 //!
 //! The path is the reference's. It has no marks: these are document 01's as transcribed in
-//! `rule`. A refusal and the counts are document 01's rule.
+//! `rule`. A refusal and the counts are the documents' rule.
 
 use harness::random::Random;
 use twillharbor::Size;
 use twillharbor::StartPointStrategy::{self, Inside, Outside};
 
 use super::{
-    MOST_COORDINATES, MOST_LENGTHS, PATH_FILL, Words, damaged_copy, fits, fitting_damages,
-    refused_plates,
+    PATH_FILL, Words, damaged_copy, fits, fitting_damages, in_layers, plate_of, refused_plates,
+    write_plate,
 };
+use crate::layers;
 use crate::lent::Number;
 use crate::plates::{Plate, small_plate};
 use crate::reference::retrace;
@@ -56,7 +57,8 @@ struct Row {
 }
 
 /// The rows: document 01's plates A and D to G, others that separate one rule from another,
-/// then the same number of each kind of plate and of damage.
+/// plates that document 02's layers decide, then the same number of each kind of plate, in
+/// layers, and of damage.
 pub fn retraces() -> String {
     let rows = rows();
     let mut words = Words::default();
@@ -66,8 +68,8 @@ pub fn retraces() -> String {
 }
 
 fn rows() -> Vec<Row> {
-    let mut random = Random::new(21);
-    let random = &mut random;
+    let random = &mut Random::new(21);
+    let of_layers = &mut Random::new(22);
     let mut rows = Vec::new();
     for (place, (plate, strategy)) in marked().into_iter().enumerate() {
         // The lettered ones in slices of several lengths, the first of which are just enough.
@@ -87,6 +89,14 @@ fn rows() -> Vec<Row> {
     for plate in refused_plates() {
         rows.push(row(plate, Outside, ROOMY, random));
     }
+    for (place, plate) in in_layers::sound().into_iter().enumerate() {
+        let strategies =
+            if place < in_layers::STARTING { &[Outside, Inside][..] } else { &[Inside] };
+        rows.extend(strategies.iter().map(|&strategy| row(plate.clone(), strategy, 0, random)));
+    }
+    for (turn, plate) in in_layers::refused().into_iter().enumerate() {
+        rows.push(row(plate, [Outside, Inside][turn % 2], turn, random));
+    }
     for (kind, _) in KINDS {
         for _ in 0..PLATES {
             let strategy = random.pick(&[Outside, Inside]);
@@ -95,6 +105,7 @@ fn rows() -> Vec<Row> {
                     Kind::Of(kind) => small_plate(kind, random),
                     _ => plate(kind, random),
                 };
+                let plate = layers::in_layers(plate, of_layers);
                 if fits(&plate) && (4..=MOST_ELEMENTS / 2).contains(&points_of(&plate, strategy)) {
                     break plate;
                 }
@@ -103,7 +114,8 @@ fn rows() -> Vec<Row> {
             rows.push(row(plate, strategy, rows.len(), random));
         }
     }
-    for damage in fitting_damages() {
+    // The damages of the layers are among the plates above.
+    for damage in fitting_damages().filter(|damage| damage.number() != rule::BAD_LAYER) {
         for turn in 0..DAMAGED {
             let copy = damaged_copy(damage, random);
             rows.push(row(copy, random.pick(&[Outside, Inside]), ROOMY + turn, random));
@@ -115,7 +127,7 @@ fn rows() -> Vec<Row> {
 /// How many points the path has: of more than fit in a row, one more than fits.
 fn points_of(plate: &Plate, strategy: StartPointStrategy) -> usize {
     let cap = MOST_ELEMENTS / 2;
-    match retrace(&plate.points, &plate.lengths, plate.size, strategy, cap) {
+    match retrace(plate, strategy, cap) {
         Ok(Ok(retrace)) if retrace.whole => retrace.marks.len(),
         Ok(Ok(_)) => cap + 1,
         Ok(Err(_)) => 0,
@@ -302,36 +314,22 @@ fn marked() -> Vec<(Plate, StartPointStrategy)> {
         (&[&[(0.0, -0.0)], &[(-0.0, 0.0), (-0.0, -0.0)], &[(0.0, 0.0)]], 0, 0, Outside),
     ];
     let plates = plates.map(|(contours, width, height, strategy)| {
-        let plate = Plate {
-            points: contours.concat().iter().flat_map(|&(x, y)| [x, y]).collect(),
-            lengths: contours.iter().map(|contour| contour.len() as u32).collect(),
-            size: Size { width, height },
-        };
-        (plate, strategy)
+        (plate_of(contours, Size { width, height }), strategy)
     });
     plates.to_vec()
 }
 
 fn write_row(words: &mut Words, row: &Row) {
-    let Row { plate: Plate { points, lengths, size }, strategy, .. } = row;
-    let Row { path, marks, work, distances, .. } = *row;
-    assert!(points.len() <= MOST_COORDINATES && lengths.len() <= MOST_LENGTHS);
+    let Row { plate, strategy, path, marks, work, distances } = row;
+    let [path, marks, work, distances] = [*path, *marks, *work, *distances];
     assert!(path.max(marks) <= MOST_ELEMENTS);
     assert!(work <= MOST_WORK && distances <= MOST_DISTANCES);
-    let inside = u64::from(*strategy == Inside);
-    let count = |n: usize| n as u64;
-    words.line(
-        [count(points.len()), count(lengths.len()), size.width.into(), size.height.into()]
-            .into_iter()
-            .chain([inside, count(path), count(marks), count(work), count(distances)]),
-    );
-    words.line(points.iter().map(|c| c.bits()));
-    words.line(lengths.iter().map(|n| n.bits()));
+    write_plate(words, plate, *strategy, &[path, marks, work, distances]);
 
-    let due = retrace(points, lengths, *size, *strategy, MOST_ELEMENTS / 2);
-    let due = due.expect("the rules agree");
+    let due = retrace(plate, *strategy, MOST_ELEMENTS / 2).expect("the rules agree");
     let result = due.as_ref().map_err(|&refused| refused);
     let room = rule::retrace_room(path, marks);
+    let lengths = &plate.lengths;
     let (answer, written) = rule::retrace_outcome(result, lengths, room, work, distances);
     words.line(answer.map(u64::from));
     let mut path = vec![PATH_FILL; path];
@@ -348,23 +346,25 @@ fn write_row(words: &mut Words, row: &Row) {
 mod tests {
     use twillharbor::c;
 
-    use super::super::tests::words;
+    use super::super::tests::{MOST_BYTES, words};
+    use super::super::{MOST_COORDINATES, MOST_LAYERS, MOST_LENGTHS};
     use super::{
-        LETTERED, MARKS_FILL, MOST_COORDINATES, MOST_DISTANCES, MOST_ELEMENTS, MOST_LENGTHS,
-        MOST_WORK, PATH_FILL, PLATE_E, marked, retraces,
+        LETTERED, MARKS_FILL, MOST_DISTANCES, MOST_ELEMENTS, MOST_WORK, PATH_FILL, PLATE_E, marked,
+        retraces,
     };
 
     /// Reads the rows as a program without Rust would, and calls the library.
     #[test]
     fn the_library_gives_what_the_rows_record() {
-        let words = words(&retraces());
-        let mut words = words.into_iter();
+        let text = retraces();
+        assert!(text.len() < MOST_BYTES, "{} bytes", text.len());
+        let mut words = words(&text).into_iter();
         let mut next = || words.next().expect("the row has another word");
         let rows = next();
-        assert!((130..=170).contains(&rows), "{rows} rows");
-        let (mut numbers, mut places) = ([0; 7], [0; 2]);
+        assert!((180..=220).contains(&rows), "{rows} rows");
+        let (mut numbers, mut places) = ([0; 14], [0; 2]);
         for _ in 0..rows {
-            let [coordinates, contours] = [next() as usize, next() as usize];
+            let [coordinates, contours, layers] = [(); 3].map(|()| next() as usize);
             let [width, height] = [(); 2].map(|()| u32::try_from(next()).unwrap());
             let inside = match next() {
                 0 => false,
@@ -373,10 +373,12 @@ mod tests {
             };
             let [path, marks, work, distances] = [(); 4].map(|()| next() as usize);
             assert!(coordinates <= MOST_COORDINATES && contours <= MOST_LENGTHS);
+            assert!(layers <= MOST_LAYERS);
             assert!(path.max(marks) <= MOST_ELEMENTS);
             assert!(work <= MOST_WORK && distances <= MOST_DISTANCES);
             let points: Vec<f64> = (0..coordinates).map(|_| f64::from_bits(next())).collect();
-            let lengths: Vec<u32> = (0..contours).map(|_| u32::try_from(next()).unwrap()).collect();
+            let [lengths, layers]: [Vec<u32>; 2] = [contours, layers]
+                .map(|count| (0..count).map(|_| u32::try_from(next()).unwrap()).collect());
 
             let mut path = vec![PATH_FILL; path];
             let mut marks = vec![MARKS_FILL; marks];
@@ -384,6 +386,7 @@ mod tests {
             let r = c::retrace(
                 &points,
                 &lengths,
+                &layers,
                 width,
                 height,
                 inside,
@@ -406,7 +409,7 @@ mod tests {
         }
         assert_eq!(words.next(), None);
         // Every number but 1 is there, several times, and both places of 5.
-        assert!([0, 2, 3, 4, 5, 6].iter().all(|&n| numbers[n] >= 4), "{numbers:?}");
+        assert!([0, 2, 3, 13, 4, 5, 6].iter().all(|&n| numbers[n] >= 4), "{numbers:?}");
         assert!(places.iter().all(|&rows| rows >= 4), "{places:?}");
         assert!(numbers[0] >= 60 && numbers[6] >= 25, "{numbers:?}");
     }

@@ -1,11 +1,12 @@
-//! Document 01's retrace and its marks once more, written from its text and apart from the
-//! reference: grid and nearest, samples and cache, retrace and marks.
+//! Document 01's retrace and its marks once more, with document 02's layers, written from their
+//! text and apart from the reference: grid and nearest, samples and cache, retrace and marks.
 
 use std::cmp::Reverse;
 
-use twillharbor::{Size, StartPointStrategy};
+use twillharbor::StartPointStrategy;
 
-use super::squared;
+use super::{Held, squared};
+use crate::plates::Plate;
 
 /// The kinds of a mark.
 pub const START: u32 = 0;
@@ -73,21 +74,22 @@ impl Grid {
     }
 }
 
-/// A contour that is not skipped: its number, the vertex number of its vertex 0, and its last
-/// vertex, counted from 0 within it.
+/// A contour that is not skipped: its number, its layer, the vertex number of its vertex 0, and
+/// its last vertex, counted from 0 within it.
 #[derive(Debug, Clone, Copy)]
 struct Contour {
     number: u32,
+    layer: u32,
     first: usize,
     last: usize,
 }
 
-fn contours(lengths: &[u32]) -> Vec<Contour> {
+fn contours(plate: &Plate) -> Vec<Contour> {
     let mut first = 0;
     let mut contours = Vec::new();
-    for (number, &length) in (0..).zip(lengths) {
+    for ((number, &length), &layer) in (0..).zip(&plate.lengths).zip(&plate.layers) {
         if length > 0 {
-            contours.push(Contour { number, first, last: length as usize - 1 });
+            contours.push(Contour { number, layer, first, last: length as usize - 1 });
             first += length as usize;
         }
     }
@@ -201,19 +203,15 @@ impl Path<'_> {
     }
 }
 
-/// The path of a plate that is not refused. It stops once it is longer than the cap.
-pub fn retrace(
-    points: &[f64],
-    lengths: &[u32],
-    size: Size,
-    strategy: StartPointStrategy,
-    cap: usize,
-) -> Vec<Step> {
-    let Some([number, reversed]) = super::start(points, lengths, size, strategy) else {
-        return Vec::new();
+/// The path of a plate that is not refused, and what the layers did to the choices after the
+/// start. It stops once it is longer than the cap.
+pub fn retrace(plate: &Plate, strategy: StartPointStrategy, cap: usize) -> (Vec<Step>, Held) {
+    let mut held = Held::default();
+    let Some([number, reversed]) = super::start(plate, strategy) else {
+        return (Vec::new(), held);
     };
-    let (points, _) = points.as_chunks::<2>();
-    let contours = contours(lengths);
+    let (points, _) = plate.points.as_chunks::<2>();
+    let contours = contours(plate);
     let grid = Grid::of(points);
     let cells = grid.cells[0] * grid.cells[1];
 
@@ -256,11 +254,13 @@ pub fn retrace(
     }
 
     while path.steps.len() <= cap {
-        let caches = waiting.iter().enumerate();
-        let nearest = caches.filter_map(|(contour, cache)| cache.map(|c| (c.squared, contour)));
-        let Some((_, chosen)) = nearest.min() else {
+        let caches = waiting.iter().enumerate().filter_map(|(contour, cache)| {
+            cache.map(|cache| (contours[contour].layer, cache.squared, contour))
+        });
+        let Some((layer, squared, chosen)) = caches.clone().min() else {
             break;
         };
+        held.look((layer, squared), caches.map(|(layer, squared, _)| (layer, squared)));
         let Some(Cache { entry, .. }) = waiting[chosen].take() else {
             unreachable!("it was waiting");
         };
@@ -291,7 +291,7 @@ pub fn retrace(
             }
         }
     }
-    path.steps
+    (path.steps, held)
 }
 
 #[cfg(test)]
@@ -299,16 +299,47 @@ mod tests {
     use twillharbor::Size;
     use twillharbor::StartPointStrategy::{self, Inside, Outside};
 
-    use super::{Grid, retrace, samples};
+    use super::{Grid, Plate, Step, retrace, samples};
+
+    fn steps(
+        points: &[f64],
+        lengths: &[u32],
+        layers: &[u32],
+        [width, height]: [u32; 2],
+        strategy: StartPointStrategy,
+        cap: usize,
+    ) -> Vec<Step> {
+        let plate = Plate {
+            points: points.to_vec(),
+            lengths: lengths.to_vec(),
+            layers: layers.to_vec(),
+            size: Size { width, height },
+        };
+        retrace(&plate, strategy, cap).0
+    }
 
     fn marks(
         points: &[f64],
         lengths: &[u32],
-        [width, height]: [u32; 2],
+        size: [u32; 2],
         strategy: StartPointStrategy,
     ) -> Vec<[u32; 2]> {
-        let steps = retrace(points, lengths, Size { width, height }, strategy, usize::MAX);
+        let layers = vec![0; lengths.len()];
+        let steps = steps(points, lengths, &layers, size, strategy, usize::MAX);
         steps.iter().map(|step| step.mark).collect()
+    }
+
+    #[test]
+    fn a_nearer_contour_of_a_higher_layer_waits() {
+        // (0,0) | (1,0) | (2,0)
+        let marks = |layers: [u32; 3]| -> Vec<[u32; 2]> {
+            let points = [0.0, 0.0, 1.0, 0.0, 2.0, 0.0];
+            let steps = steps(&points, &[1; 3], &layers, [0, 0], Inside, usize::MAX);
+            steps.iter().map(|step| step.mark).collect()
+        };
+        assert_eq!(marks([7; 3]), [[0, 0], [3, 1], [3, 2]]);
+        assert_eq!(marks([0, 1, 0]), [[0, 0], [3, 2], [3, 1]]);
+        assert_eq!(marks([15, 7, 0]), [[0, 2], [3, 1], [3, 0]]);
     }
 
     // The paths are compared with the reference wherever they are used. It has no marks.
@@ -342,7 +373,7 @@ mod tests {
     fn a_capped_path_starts_as_the_whole_one() {
         let points: Vec<f64> =
             (0..40_u32).flat_map(|i| [i * 37 % 101, i * 53 % 97]).map(f64::from).collect();
-        let capped = |cap| retrace(&points, &[1; 40], Size::default(), Outside, cap);
+        let capped = |cap| steps(&points, &[1; 40], &[0; 40], [0, 0], Outside, cap);
         let whole = capped(usize::MAX);
         assert!(whole.len() > 100);
         for cap in [0, 1, 2, 10, whole.len() - 1] {

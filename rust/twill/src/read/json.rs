@@ -1,12 +1,14 @@
 //! JSON: an array of contours, each an array of points, each `[x, y]` or `{"x": x, "y": y}`; or
-//! an object with such an array as `contours`, and perhaps `width`, `height` and `start`.
+//! an object with such an array as `contours`, and perhaps `width`, `height`, `start`, and
+//! `layers` with a number for each contour.
 //!
 //! A coordinate may also be a string with a number of the text form, as `"0x1.8p3"`, and the
 //! words NaN, Infinity and -Infinity are read, which some programs write.
 
 use super::excerpt;
 use crate::number;
-use crate::plate::{self, Plate, Remark};
+use crate::plate::{self, Layer, Plate, Remark};
+use twillharbor::HIGHEST_LAYER;
 
 pub fn read(text: &str) -> Result<Plate, Remark> {
     let mut reader = Reader { text, at: 0, plate: Plate::default() };
@@ -33,22 +35,27 @@ struct Reader<'a> {
 impl<'a> Reader<'a> {
     fn whole_plate(&mut self) -> Result<(), Remark> {
         let mut has_contours = false;
+        let mut layers = None;
         let mut keys: Vec<String> = Vec::new();
         self.members(|reader, key, byte| {
             if keys.contains(&key) {
                 return Err(Remark::new(byte, format!("`{}` is given twice", excerpt(&key))));
             }
             match key.as_str() {
-                "width" => reader.plate.width = Some(reader.size(&key)?),
-                "height" => reader.plate.height = Some(reader.size(&key)?),
+                "width" => reader.plate.width = Some(reader.whole(&key, u32::MAX)?),
+                "height" => reader.plate.height = Some(reader.whole(&key, u32::MAX)?),
                 "start" => reader.start()?,
+                "layers" => {
+                    reader.plate.layers_byte = Some(byte);
+                    layers = Some(reader.layers()?);
+                }
                 "contours" => {
                     has_contours = true;
                     reader.contours()?;
                 }
                 _ => {
                     let message = format!(
-                        "`{}` is none of the keys contours, width, height and start",
+                        "`{}` is none of the keys contours, layers, width, height and start",
                         excerpt(&key)
                     );
                     return Err(Remark::new(byte, message));
@@ -57,6 +64,10 @@ impl<'a> Reader<'a> {
             keys.push(key);
             Ok(())
         })?;
+        // Whether they are as many as the contours is for the library to say.
+        if let Some(layers) = layers {
+            self.plate.layers = layers;
+        }
         if has_contours { Ok(()) } else { Err(Remark::new(self.at, "the plate has no `contours`")) }
     }
 
@@ -125,16 +136,29 @@ impl<'a> Reader<'a> {
         }
     }
 
-    fn size(&mut self, key: &str) -> Result<u32, Remark> {
+    /// A whole number. The most that it may be is told; a layer above it is the library's to
+    /// refuse.
+    fn whole(&mut self, name: &str, most: u32) -> Result<u32, Remark> {
         self.peek();
         let word = self.word();
-        match word.parse() {
-            Ok(value) if is_json_number(word) => {
+        match number::whole(word) {
+            Some(value) if is_json_number(word) => {
                 self.at += word.len();
                 Ok(value)
             }
-            _ => Err(self.expected(&format!("as {key} a whole number from 0 to 4294967295"))),
+            _ => Err(self.expected(&format!("as {name} a whole number from 0 to {most}"))),
         }
+    }
+
+    fn layers(&mut self) -> Result<Vec<Layer>, Remark> {
+        let mut layers = Vec::new();
+        self.elements("an array of layers", |reader| {
+            reader.peek();
+            let byte = reader.at;
+            layers.push(Layer::new(reader.whole("layer", HIGHEST_LAYER)?, byte));
+            Ok(())
+        })?;
+        Ok(layers)
     }
 
     fn start(&mut self) -> Result<(), Remark> {
@@ -290,6 +314,7 @@ fn is_json_number(word: &str) -> bool {
 #[cfg(test)]
 mod tests {
     use super::{is_json_number, read};
+    use crate::plate;
     use twillharbor::StartPointStrategy;
 
     #[test]
@@ -309,6 +334,19 @@ mod tests {
         assert_eq!((plate.width, plate.height), (Some(8), Some(2)));
         assert_eq!(plate.strategy, Some(StartPointStrategy::Inside));
         assert!(plate.points[0].is_nan() && plate.points[1] == f64::NEG_INFINITY);
+    }
+
+    #[test]
+    fn layers_stand_beside_the_contours() {
+        let text = r#"{"layers": [0, 16,4294967295], "contours": [[[0,0]], [], [[1,0]]]}"#;
+        let plate = read(text).unwrap();
+        let layers: Vec<_> = plate.layers.iter().map(|l| (l.number, l.byte)).collect();
+        assert_eq!(layers, [(0, Some(12)), (16, Some(15)), (u32::MAX, Some(18))]);
+        assert_eq!(plate.layers_byte, Some(1));
+        // The library refuses what is not as long as the contours.
+        assert_eq!(read(r#"{"contours": [[[0,0]], []], "layers": [1]}"#).unwrap().layers.len(), 1);
+        let without = read("[[[0,0]], []]").unwrap();
+        assert_eq!(without.layers, [plate::Layer::default(), plate::Layer::default()]);
     }
 
     #[test]
@@ -342,8 +380,13 @@ mod tests {
             (
                 "{\"contour\":[]}",
                 1,
-                "`contour` is none of the keys contours, width, height and start",
+                "`contour` is none of the keys contours, layers, width, height and start",
             ),
+            ("{\"layers\":[1.5]}", 11, "expected as layer a whole number from 0 to 15, not `1.5`"),
+            ("{\"layers\":[-1]}", 11, "expected as layer a whole number from 0 to 15, not `-1`"),
+            ("{\"layers\":[\"1\"]}", 11, "expected as layer a whole number from 0 to 15, not `\"`"),
+            ("{\"layers\":1}", 10, "expected an array of layers, not `1`"),
+            ("{\"layers\":[],\"layers\":[]}", 13, "`layers` is given twice"),
             ("{\"width\":1,\"width\":1}", 11, "`width` is given twice"),
             (
                 "{\"width\":1.5}",

@@ -5,8 +5,10 @@
 //! a transform around them they are kept bit for bit. Definitions, descriptions, elements with a
 //! foreign prefix and what has display none are passed over. All else would leave the picture
 //! incomplete, so it is refused by name. So are properties that hide, clip or move what is drawn,
-//! on an element, in its style or in a stylesheet; no others are looked at.
+//! on an element, in its style or in a stylesheet; no others are looked at. Layers are Inkscape's
+//! layer groups in their order, or what `data-layer` says.
 
+mod layer;
 mod path;
 mod scan;
 mod shapes;
@@ -44,28 +46,35 @@ const NAMESPACE: &str = "http://www.w3.org/2000/svg";
 
 pub fn read(text: &str) -> Result<Plate, Remark> {
     let mut tokens = Tokens::new(text);
-    let mut reader =
-        Reader { plate: Plate::default(), open: Vec::new(), passed_over: 0, sheets: 0 };
+    let mut reader = Reader {
+        plate: Plate::default(),
+        open: Vec::new(),
+        layers: layer::Groups::default(),
+        passed_over: 0,
+        sheets: 0,
+    };
     while let Some(event) = tokens.event()? {
         match event {
             Event::Open(element) => reader.open(&element)?,
             Event::Close(content) => reader.close(content)?,
         }
     }
+    reader.layers.note(&mut reader.plate);
     Ok(reader.plate)
 }
 
 /// An element that is not closed yet.
-#[derive(Clone, Copy)]
+#[derive(Clone)]
 enum Open {
     /// With what holds for all that is in it.
-    Group(Option<Matrix>),
+    Group(Option<Matrix>, layer::Within),
     Shape,
 }
 
 struct Reader {
     plate: Plate,
     open: Vec<Open>,
+    layers: layer::Groups,
     /// How many elements are open from the one on that is passed over.
     passed_over: usize,
     /// How many of the open elements are stylesheets.
@@ -80,35 +89,44 @@ impl Reader {
             return Ok(());
         }
         let name = element.name.strip_prefix("svg:").unwrap_or(element.name);
-        let outer = self.open.last().copied();
+        let outer = self.open.last().cloned();
         if outer.is_none() {
             self.root(element, name)?;
         }
         check_prefixes(element)?;
         if name.contains(':') || PASSED_OVER.contains(&name) || style::is_hidden(element) {
-            self.passed_over = 1;
+            self.pass_over(outer, element);
             return Ok(());
         }
         style::check(element, name)?;
         let opened = match (outer, name) {
-            (None, _) => Open::Group(None),
+            (None, _) => Open::Group(None, self.layers.within(&layer::Within::default(), element)?),
             (Some(Open::Shape), _) => {
                 let message = format!("{} stands within a shape", named(element));
                 return Err(Remark::new(element.byte, message));
             }
-            (Some(Open::Group(outer)), "g" | "a" | "svg") => {
+            (Some(Open::Group(outer, around)), "g" | "a" | "svg") => {
                 check_nested(element, name)?;
-                Open::Group(transform::within(outer, element)?)
+                let transform = transform::within(outer, element)?;
+                Open::Group(transform, self.layers.within(&around, element)?)
             }
-            (Some(Open::Group(outer)), _) => {
+            (Some(Open::Group(outer, around)), _) => {
                 let draw = shapes::drawing(element, name)?;
                 let transform = transform::within(outer, element)?;
+                self.plate.layer = self.layers.within(&around, element)?.layer;
                 draw(element, Pen { plate: &mut self.plate, transform })?;
                 Open::Shape
             }
         };
         self.open.push(opened);
         Ok(())
+    }
+
+    fn pass_over(&mut self, outer: Option<Open>, element: &Element) {
+        self.passed_over = 1;
+        if let Some(Open::Group(_, around)) = outer {
+            self.layers.pass_over(&around, element);
+        }
     }
 
     fn close(&mut self, content: Content) -> Result<(), Remark> {

@@ -2,12 +2,13 @@
 //!
 //! A line holds a point, `x y` or `x,y`, or points in brackets, `(x,y)(x,y)`. Blank lines and `|`
 //! end a contour. The word `empty` is a contour without a point, `size W H` and `start inside` or
-//! `start outside` give the plate's size and strategy, and `#` begins a comment.
+//! `start outside` give the plate's size and strategy, `layer N` the layer of the contours from
+//! there on, and `#` begins a comment.
 
 use super::excerpt;
 use crate::number;
-use crate::plate::{Plate, Remark};
-use twillharbor::StartPointStrategy;
+use crate::plate::{Layer, Plate, Remark};
+use twillharbor::{HIGHEST_LAYER, StartPointStrategy};
 
 pub fn read(text: &str) -> Result<Plate, Remark> {
     let mut reader = Reader { text, at: 0, plate: Plate::default(), apart: true };
@@ -34,7 +35,7 @@ impl<'a> Reader<'a> {
         self.skip_blanks();
         if self.line_end().is_some() {
             self.apart = true;
-        } else if matches!(self.word(), "size" | "start") {
+        } else if matches!(self.word(), "size" | "start" | "layer") {
             self.setting()?;
         }
         loop {
@@ -130,19 +131,27 @@ impl<'a> Reader<'a> {
         }
     }
 
-    /// A line that gives the plate's size or strategy.
+    /// A line that gives the plate's size or strategy, or a layer, which may change.
     fn setting(&mut self) -> Result<(), Remark> {
         let byte = self.at;
         let word = self.word();
         self.at += word.len();
         self.apart = true;
-        let is_twice = if word == "size" {
-            let (width, height) = (self.whole("width")?, self.whole("height")?);
-            self.plate.height = Some(height);
-            self.plate.width.replace(width).is_some()
-        } else {
-            let strategy = self.strategy()?;
-            self.plate.strategy.replace(strategy).is_some()
+        let is_twice = match word {
+            "size" => {
+                let width = self.whole("width", u32::MAX)?;
+                let height = self.whole("height", u32::MAX)?;
+                self.plate.height = Some(height);
+                self.plate.width.replace(width).is_some()
+            }
+            "start" => {
+                let strategy = self.strategy()?;
+                self.plate.strategy.replace(strategy).is_some()
+            }
+            _ => {
+                self.plate.layer = Layer::new(self.whole("layer", HIGHEST_LAYER)?, byte);
+                false
+            }
         };
         if is_twice {
             return Err(Remark::new(byte, format!("the {word} is given twice")));
@@ -155,15 +164,17 @@ impl<'a> Reader<'a> {
         }
     }
 
-    fn whole(&mut self, name: &str) -> Result<u32, Remark> {
+    /// A whole number. The most that it may be is told; a layer above it is the library's to
+    /// refuse.
+    fn whole(&mut self, name: &str, most: u32) -> Result<u32, Remark> {
         self.skip_blanks();
         let word = self.word();
-        match word.parse() {
-            Ok(value) if word.bytes().all(|b| b.is_ascii_digit()) => {
+        match number::whole(word) {
+            Some(value) => {
                 self.at += word.len();
                 Ok(value)
             }
-            _ => Err(self.expected(&format!("as {name} a whole number from 0 to {}", u32::MAX))),
+            None => Err(self.expected(&format!("as {name} a whole number from 0 to {most}"))),
         }
     }
 
@@ -266,6 +277,19 @@ mod tests {
     }
 
     #[test]
+    fn layers_hold_from_their_line_on() {
+        let plate = read(
+            "0 0\n1 0\nlayer 3\n2 0\n\nempty\nlayer 0 # again\n(3,0) | (4,0)\n\
+                          layer 16\nlayer 4294967295\n5 0\n",
+        )
+        .unwrap();
+        assert_eq!(plate.lengths, [2, 1, 0, 1, 1, 1]);
+        let layers: Vec<_> = plate.layers.iter().map(|l| (l.number, l.byte)).collect();
+        let (three, zero, last) = ((3, Some(8)), (0, Some(27)), (u32::MAX, Some(66)));
+        assert_eq!(layers, [(0, None), three, three, zero, zero, last]);
+    }
+
+    #[test]
     fn lines_end_as_any_system_writes_them() {
         let text = "# a\n0 0\n4 0\n\n4 1\n8 1\n";
         for end in ["\n", "\r\n", "\r"] {
@@ -308,6 +332,23 @@ mod tests {
             ("size 1 2\nsize 1 2", 9, "the size is given twice"),
             ("size 1 2 3", 9, "expected the end of the line, not `3`"),
             ("start in", 6, "expected `inside` or `outside`, not `in`"),
+            ("layer -1", 6, "expected as layer a whole number from 0 to 15, not `-1`"),
+            (
+                "layer 4294967296",
+                6,
+                "expected as layer a whole number from 0 to 15, not `4294967296`",
+            ),
+            (
+                "1 2\nlayer\n",
+                9,
+                "expected as layer a whole number from 0 to 15, not the end of the line",
+            ),
+            ("layer 1 2", 8, "expected the end of the line, not `2`"),
+            (
+                "1 2 layer 1",
+                4,
+                "expected `|` or the end of the line after a point without brackets, not `layer`",
+            ),
             (
                 "1 2 start inside",
                 4,

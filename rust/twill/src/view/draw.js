@@ -6,7 +6,8 @@
 const canvas = element("canvas");
 const context = canvas.getContext("2d", { alpha: false });
 let ratio = 1;
-let view = { x: 0, y: 0, scale: 1, width: 1, height: 1 };
+/** `only` is the layer whose pairs alone are drawn; null if all are. */
+let view = { x: 0, y: 0, scale: 1, width: 1, height: 1, only: null };
 let isFitted = true;
 
 /** The room around the plate when it is fitted; above it are the buttons. */
@@ -29,7 +30,7 @@ function fit() {
   const { side, top } = margins(width, height), scale = fitScale(width, height);
   const x = (bounds.left + bounds.right) / 2;
   const y = (bounds.top + bounds.bottom) / 2 - (top - side) / 2 / scale;
-  setView({ x, y, scale, width, height });
+  setView({ ...view, x, y, scale, width, height });
 }
 
 let viewSince = 0;
@@ -40,7 +41,8 @@ function setView(changed) {
 }
 
 const sameView = (a, b) =>
-  a.x === b.x && a.y === b.y && a.scale === b.scale && a.width === b.width && a.height === b.height;
+  a.x === b.x && a.y === b.y && a.scale === b.scale && a.width === b.width && a.height === b.height
+  && a.only === b.only;
 
 /** Zooms by a factor; the place at these pixels stays where it is. */
 function zoom(factor, px, py) {
@@ -153,6 +155,20 @@ function drawCuts(target, v, list, from, to) {
   target.stroke();
 }
 
+/** The cuts of a layer that has dashes. */
+function drawDashedCuts(target, v, list, from, to, style) {
+  const dashes = layerDashes(pairLayers[list[from]]);
+  target.beginPath();
+  for (let at = from; at < to; at++) {
+    if (!lay(v, list[at], 60)) continue;
+    for (const [place, length] of dashes.pieces) {
+      const phase = runs[list[at]] * v.scale + (dashes.period - place) * style.dashes;
+      pieces(target, length * style.dashes, dashes.period * style.dashes, 0, phase);
+    }
+  }
+  target.stroke();
+}
+
 function drawBackSteps(target, v, list, from, to, style) {
   target.beginPath();
   for (let at = from; at < to; at++) {
@@ -184,12 +200,14 @@ const DRAW = [null, drawCuts, drawBackSteps, drawJumps];
 function drawItems(target, v, style, list, from, to) {
   let at = from;
   while (at < to) {
-    const kind = kindOf(list[at]);
+    const kind = kindOf(list[at]), layer = pairLayers[list[at]];
     const most = Math.min(to, at + (style.isFine ? 8 * BATCH : BATCH));
+    const isAlike = (pair) => kindOf(pair) === kind && (kind !== CUT || pairLayers[pair] === layer);
     let end = at + 1;
-    while (end < most && kindOf(list[end]) === kind) end++;
-    pen(target, COLOURS[kind], style.widths[kind]);
-    DRAW[kind](target, v, list, at, end, style);
+    while (end < most && isAlike(list[end])) end++;
+    pen(target, colourOf(list[at]), style.widths[kind]);
+    const draw = kind === CUT && layerDashes(layer) ? drawDashedCuts : DRAW[kind];
+    draw(target, v, list, at, end, style);
     at = end;
   }
 }
@@ -203,12 +221,14 @@ function styleOf(isFine, size) {
   return {
     isFine, widths: [0, width(1.7), width(2.4), width(1.8)], pale: fine,
     dot: 2.5 * k, period: 6.5 * ratio, aside: Math.max(4 * k, 2.2 * ratio),
-    dash: 11 * Math.max(k, 0.7 * ratio), head: 11 * Math.max(k, 0.6 * ratio), lone: 2.6 * k,
+    dashes: Math.max(k, 0.7 * ratio), dash: 11 * Math.max(k, 0.7 * ratio), head: 11 * Math.max(k, 0.6 * ratio), lone: 2.6 * k,
   };
 }
 
 /** About how many microseconds an item takes to draw without a graphics card. */
-function costOf(kind, length, style) {
+function costOf(pair, length, style) {
+  const kind = kindOf(pair), dashes = kind === CUT && layerDashes(pairLayers[pair]);
+  if (dashes) return (style.isFine ? 0.6 : 1.6) * (1 + (2 * length) / (dashes.period * style.dashes));
   if (kind === CUT) return style.isFine ? 0.5 + 0.012 * length : 3 + 0.05 * length;
   if (kind === BACK_STEP) return (style.isFine ? 0.4 : 1.1) * (1 + length / style.period);
   return (style.isFine ? 0.5 : 3) * (8 + length / style.dash);
@@ -239,12 +259,16 @@ class Picture {
     const longest = Math.hypot(v.width, v.height), reach = 16 * ratio;
     const isAway = awayFrom(v, reach);
     let count = 0;
+    const others = [];
     for (const pair of items) {
       if (isAway(2 * pair) || !lay(v, pair, reach)) continue;
+      if (v.only !== null && pairLayers[pair] !== v.only) { others.push(pair); continue; }
       lengthsSeen[count] = Math.min(line.last - line.first, longest);
       seen[count++] = pair;
     }
     this.list = seen.slice(0, count);
+    // What is to come, and all of the layers that are not asked for, is pale.
+    this.palePairs = others.length ? Uint32Array.from([...others, ...this.list]) : this.list;
     const size = this.sizeFor(lengthsSeen);
     this.setStyle(styleOf(false, size), lengthsSeen);
     if (count > 15000 || this.cost > 60000) this.setStyle(styleOf(true, LEAST_SIZE), lengthsSeen);
@@ -268,7 +292,7 @@ class Picture {
     // Before item i, costs[i] microseconds are spent.
     this.costs = new Float64Array(list.length + 1);
     for (let at = 0; at < list.length; at++) {
-      const cost = costOf(kindOf(list[at]), lengthsSeen[at], this.style);
+      const cost = costOf(list[at], lengthsSeen[at], this.style);
       this.costs[at + 1] = this.costs[at] + cost;
     }
     this.cost = this.costs[list.length];
@@ -304,7 +328,7 @@ class Picture {
   /** How many items are drawn when a pair is the current one. */
   place(pair) { return countUpTo(this.list, pair); }
 
-  get isPale() { return this.paleAt >= this.list.length; }
+  get isPale() { return this.paleAt >= this.palePairs.length; }
   get isWhole() { return this.isPale && this.scoutAt >= this.list.length; }
 
   /** Draws on the contours to come, then on towards the last item, keeping copies. */
@@ -329,16 +353,16 @@ class Picture {
   }
 
   advancePale(budget) {
-    const to = Math.min(this.paleAt + Math.ceil(budget), this.list.length);
+    const to = Math.min(this.paleAt + Math.ceil(budget), this.palePairs.length);
     const target = brush(this.copies[0].sheet);
-    const cuts = this.list.subarray(this.paleAt, to).filter((pair) => kindOf(pair) === CUT);
+    const cuts = this.palePairs.subarray(this.paleAt, to).filter((pair) => kindOf(pair) === CUT);
     pen(target, PALE, this.style.pale);
     for (let at = 0; at < cuts.length; at += 8 * BATCH) {
       drawCuts(target, this.view, cuts, at, Math.min(at + 8 * BATCH, cuts.length));
     }
     target.beginPath();
     for (let at = this.paleAt; at < to; at++) {
-      const pair = this.list[at];
+      const pair = this.palePairs[at];
       if (kindOf(pair) !== JUMP || !isLone(pair)) continue;
       dot(target, acrossOf(this.view, path[2 * pair]), downOf(this.view, path[2 * pair + 1]), this.style.lone);
     }
@@ -436,7 +460,7 @@ function drawCurrent() {
   drawHalo(isShort);
   const head = Math.min(14 * ratio, Math.max(length * 0.55, 4 * ratio));
   if (last === length) line.last = Math.max(length - head, line.first);
-  pen(context, COLOURS[kind], 3 * ratio);
+  pen(context, colourOf(current), 3 * ratio);
   context.beginPath();
   if (kind === CUT) pieces(context, Infinity, Infinity, 0, 0);
   if (kind === BACK_STEP) pieces(context, 3 * ratio, 7 * ratio, 0, 4 * ratio);
@@ -451,7 +475,7 @@ function drawCurrent() {
     context.stroke();
   }
   if (last < length || !(length > 0)) return;
-  pen(context, COLOURS[kind], ratio);
+  pen(context, colourOf(current), ratio);
   context.beginPath();
   arrowHead(context, x + ux * length, y + uy * length, ux, uy, head);
   context.fill();

@@ -147,7 +147,9 @@ const WHAT = { cut: "Segment", "back-step": "Groove", jump: "Jump" };
 const facts = {};
 
 function makeFacts() {
-  for (const [key, label] of [["from", "From"], ["to", "To"], ["what", ""], ["length", "Length"], ["mark", "Mark"]]) {
+  const rows = [["from", "From"], ["to", "To"], ["what", ""], ["length", "Length"], ["mark", "Mark"]];
+  if (layers) rows.splice(3, 0, ["layer", "Layer"]);
+  for (const [key, label] of rows) {
     const term = document.createElement("dt"), text = document.createElement("dd");
     term.textContent = label;
     text.dataset.fact = key;
@@ -185,13 +187,15 @@ function showPair() {
     facts.link.textContent = first;
     facts.what.strong.append(facts.link);
   }
+  if (layers) setFact("layer", String(pair.layer), "");
   setFact("length", plain(pair.length), "");
   setFact("mark", pair.mark.join(" "), "kind, reference");
   showControls(pair);
   keepHeight();
   later(() => {
     element("spoken").textContent = `Pair ${grouped(pair.number)}, ${pair.kind}, ${first}, from `
-      + `${pointText(pair.from)} to ${pointText(pair.to)}, length ${plain(pair.length)}`;
+      + `${pointText(pair.from)} to ${pointText(pair.to)}, length ${plain(pair.length)}`
+      + (layers ? `, layer ${pair.layer}` : "");
     keepAddress();
   });
 }
@@ -299,6 +303,54 @@ function stepInList(key) {
   return true;
 }
 
+// ---- Layers: a sample of each with its counts, and which of them are drawn.
+
+/** A layer's dashes as an attribute has them: lengths of what is drawn and of what is not, in turn. */
+function dashArray({ pieces, period }) {
+  const ends = pieces.flatMap(([place, length]) => [place, place + length]).concat(period);
+  return ends.slice(1).map((end, at) => end - ends[at]).join(" ");
+}
+
+function layerRow({ layer, cuts, contours }) {
+  const row = element("layer-row").content.firstElementChild.cloneNode(true);
+  const sample = row.querySelector("path"), dashes = layerDashes(layer);
+  sample.setAttribute("stroke", layerColour(layer));
+  if (dashes) sample.setAttribute("stroke-dasharray", dashArray(dashes));
+  row.dataset.layer = layer;
+  const [, name, ...totals] = row.children;
+  name.textContent = `Layer ${layer}`;
+  totals[0].textContent = grouped(cuts);
+  totals[1].textContent = grouped(contours);
+  return row;
+}
+
+function makeLayers() {
+  if (!layerCounts.length) return;
+  element("layers").hidden = false;
+  element("layer-rows").append(...layerCounts.map(layerRow));
+  for (const { layer } of layerCounts) element("layer").append(new Option(`layer ${layer} alone`, layer));
+  element("layer").addEventListener("change", showLayer);
+}
+
+/** Draws the pairs of the chosen layer alone, or all; what is of other layers is pale. */
+function showLayer() {
+  const choice = element("layer").value, only = choice === "" ? null : Number(choice);
+  for (const row of element("layer-rows").children) {
+    row.classList.toggle("other", only !== null && Number(row.dataset.layer) !== only);
+  }
+  for (const row of rows) {
+    row.classList.toggle("other", only !== null && pairLayers[Number(row.dataset.pair)] !== only);
+  }
+  setView({ ...view, only });
+}
+
+function nextLayer() {
+  const choice = element("layer");
+  if (!layerCounts.length) return;
+  choice.selectedIndex = (choice.selectedIndex + 1) % choice.options.length;
+  showLayer();
+}
+
 // ---- Keys.
 
 const currentAnchor = () => {
@@ -318,7 +370,7 @@ const KEYS = {
   Home: () => go(1), End: () => go(pairs),
   g: () => { element("number").focus(); element("number").select(); },
   " ": () => setPlaying(!playing),
-  f: fit, 0: fit,
+  f: fit, 0: fit, l: nextLayer,
   "+": () => zoomAtCurrent(1.5), "=": () => zoomAtCurrent(1.5), "-": () => zoomAtCurrent(1 / 1.5),
   "?": () => element("help").showModal(),
 };
@@ -484,6 +536,7 @@ window.twill = Object.freeze({
 
 describe();
 makeJumps();
+makeLayers();
 if (pairs) makeFacts(); else sayNothing();
 listenToButtons();
 listenToNumber();

@@ -3,6 +3,15 @@
 const START = 0, CUT = 1, BACK_STEP = 2, JUMP = 3;
 const KINDS = ["start", "cut", "back-step", "jump"];
 const COLOURS = ["#111111", "#111111", "#d55e00", "#0072b2"];
+/** A layer's dashes are by its number modulo 4: pairs of a place within a period and a length, in
+ *  pixels. Its colour goes on by one after each four, so that no two of sixteen layers look alike. */
+const LAYER_COLOURS = ["#111111", "#007a53", "#a8327d", "#7a5200"];
+const LAYER_DASHES = [
+  null,
+  { period: 11.5, pieces: [[0, 8]] },
+  { period: 4.8, pieces: [[0, 2]] },
+  { period: 15, pieces: [[0, 8], [10.5, 2]] },
+];
 const PALE = "#b9c2cc", FRAME = "#8a6fb0", EDGE = "#333333", HALO = "#f0e442", SHEET = "#ffffff";
 
 const element = (id) => document.getElementById(id);
@@ -66,6 +75,35 @@ function locate(vertex) {
   return [contour, vertex - firsts[contour]];
 }
 
+// ---- Layers. A plate without layers has none in the data.
+
+const layers = data.layers ?? null;
+const layerOfContour = (contour) => (layers ? layers[contour] : 0);
+
+/** For each pair the layer of the contour whose groove it is or goes back over; a jump's is that of
+ *  the contour that it lands on. */
+const pairLayers = new Uint32Array(points);
+if (layers) for (let i = 0; i < points; i++) pairLayers[i] = layerOfContour(locate(vertices[grooves[i]])[0]);
+
+/** The layers of the contours that hold a point, with how many cuts and contours they have. */
+const layerCounts = (() => {
+  const counts = new Map();
+  if (layers) data.contours.forEach((length, contour) => {
+    if (!length) return;
+    const layer = layerOfContour(contour), count = counts.get(layer) ?? { layer, cuts: 0, contours: 0 };
+    count.cuts += length - 1;
+    count.contours += 1;
+    counts.set(layer, count);
+  });
+  return [...counts.values()].sort((a, b) => a.layer - b.layer);
+})();
+
+const layerColour = (layer) => LAYER_COLOURS[(layer + Math.floor(layer / 4)) % 4];
+const layerDashes = (layer) => LAYER_DASHES[layer % 4];
+
+/** The colour in which a pair is drawn. */
+const colourOf = (pair) => (kindOf(pair) === CUT ? layerColour(pairLayers[pair]) : COLOURS[kindOf(pair)]);
+
 /** What the panel shows of a pair; null if there is none of this number. */
 function told(number) {
   if (!(number >= 1 && number <= pairs)) return null;
@@ -77,7 +115,7 @@ function told(number) {
     from: at(number - 1), to: at(number),
     fromVertex: locate(vertices[number - 1]), toVertex: locate(vertices[number]),
     reversed: kind === BACK_STEP ? reference + 1 : null, groove, grooveKind: KINDS[kindOf(groove)],
-    contour: null, segment: null, sense: null,
+    contour: null, segment: null, sense: null, layer: layers ? pairLayers[number] : null,
   };
   if (kindOf(groove) === CUT) {
     [result.contour, result.segment] = locate(referenceOf(groove));
@@ -95,9 +133,9 @@ const items = (() => {
   const kept = new Uint32Array(pairs);
   let count = 0;
   for (let i = 1; i < points; i++) {
+    // Along a run of back-steps or of cuts the dashes go on from one pair to the next.
+    if (kindOf(i - 1) === kindOf(i) && kindOf(i) !== JUMP) runs[i] = runs[i - 1] + lengths[i - 2];
     if (kindOf(i) !== BACK_STEP) { kept[count++] = i; continue; }
-    // Along a run of back-steps the dots keep their distance from one pair to the next.
-    if (kindOf(i - 1) === BACK_STEP) runs[i] = runs[i - 1] + lengths[i - 2];
     const sense = 1 + against[i];
     if (again[grooves[i]] & sense) continue;
     again[grooves[i]] |= sense;

@@ -1,18 +1,24 @@
 //! Pictures in SVG. The three kinds of pair differ without colour too: a cut is a thin line, a
-//! groove that is gone back over has a wide pale band under it, and a jump is dashed. The colours
-//! are those of the page.
+//! groove that is gone back over has a wide pale band under it, and a jump is a dashed arrow. Layers
+//! differ in colour and dashes, and each is a group with its name as title. The colours are those of
+//! the page.
 
 use crate::joined::Joined;
 use crate::number::show;
 use crate::plate::Handed;
 use crate::words;
-use std::collections::BTreeSet;
+use std::collections::{BTreeMap, BTreeSet};
 use std::fmt::Write;
 use twillharbor::{Entry, PairKind, Point};
 
 const CUT: &str = "#111111";
 const BACK_STEP: &str = "#d55e00";
 const JUMP: &str = "#0072b2";
+
+/// A layer's dashes are by its number modulo 4, in units; its colour goes on by one after each four,
+/// so that no two of sixteen layers look alike.
+const LAYER_DASHES: [&[f64]; 4] = [&[], &[6.0, 2.6], &[0.1, 2.2], &[6.0, 2.4, 0.1, 2.4]];
+const LAYER_COLOURS: [&str; 4] = [CUT, "#007a53", "#a8327d", "#7a5200"];
 
 /// How the lines of one kind are drawn.
 struct Style<'a> {
@@ -78,6 +84,32 @@ impl Frame {
         self.lines(data, Style { class: "cuts", colour: CUT, width: 1.0, more: "" })
     }
 
+    /// The contours' lines and dots, those of each layer in its look where the plate has layers.
+    fn contours(&self, plate: &Handed, drawn: &BTreeMap<u32, Drawn>) -> String {
+        if plate.is_layered() {
+            return drawn.iter().map(|(&layer, drawn)| self.layer(layer, drawn)).collect();
+        }
+        let Some(Drawn { lines, dots }) = drawn.get(&0) else { return String::new() };
+        self.cuts(&lines.data) + &self.dots(dots, &format!("fill=\"{CUT}\""))
+    }
+
+    fn layer(&self, layer: u32, drawn: &Drawn) -> String {
+        let place = layer as usize;
+        let colour = LAYER_COLOURS[(place + place / 4) % 4];
+        let dashes = LAYER_DASHES[place % 4];
+        let mut more = format!(" data-layer=\"{layer}\"");
+        if !dashes.is_empty() {
+            let dashes: Vec<String> = dashes.iter().map(|dash| show(dash * self.unit)).collect();
+            more += &format!(" stroke-dasharray=\"{}\"", dashes.join(" "));
+        }
+        let mut inner = format!("<title>layer {layer}</title>\n");
+        if !drawn.lines.data.is_empty() {
+            inner += &format!("<path d=\"{}\"/>\n", drawn.lines.data);
+        }
+        inner += &self.dots(&drawn.dots, &format!("fill=\"{colour}\" stroke=\"none\""));
+        self.group(&inner, Style { class: "cuts", colour, width: 1.0, more: &more })
+    }
+
     fn back_steps(&self, data: &str) -> String {
         let more = " stroke-opacity=\"0.35\"";
         self.lines(data, Style { class: "back-steps", colour: BACK_STEP, width: 3.6, more })
@@ -119,8 +151,8 @@ impl Frame {
     }
 
     /// Dots for contours of one point, which have no line.
-    fn dots<'a>(&self, points: impl Iterator<Item = &'a Point>) -> String {
-        points.map(|p| self.circle(*p, 1.0, &format!("fill=\"{CUT}\""))).collect()
+    fn dots(&self, points: &[Point], style: &str) -> String {
+        points.iter().map(|p| self.circle(*p, 1.0, style)).collect()
     }
 
     fn ring(&self, p: Point) -> String {
@@ -148,11 +180,13 @@ impl Frame {
 pub fn retrace(joined: &Joined) -> String {
     let frame = Frame::around(&joined.plate.points);
     let mut walked_back = BTreeSet::new();
-    let (mut cuts, mut jumps) = (Lines::default(), Vec::new());
+    let (mut drawn, mut jumps) = (dots(&joined.plate), Vec::new());
     for number in 1..=joined.count() {
         let pair = joined.pair(number);
         match pair.kind {
-            PairKind::Cut { .. } => cuts.add(pair.from, pair.to),
+            PairKind::Cut { .. } => {
+                drawn.entry(joined.layer(number)).or_default().lines.add(pair.from, pair.to);
+            }
             PairKind::Jump { .. } => jumps.push((pair.from, pair.to)),
             PairKind::BackStep { .. } => {
                 walked_back.insert(joined.groove(number));
@@ -163,15 +197,55 @@ pub fn retrace(joined: &Joined) -> String {
     for &number in &walked_back {
         back_steps.add(joined.pair(number).from, joined.pair(number).to);
     }
-    let contours: Vec<Vec<Point>> = joined.plate.contours().collect();
-    let dots = contours.iter().filter(|contour| contour.len() == 1).flatten();
-    let mut body = frame.back_steps(&back_steps.data) + &frame.cuts(&cuts.data);
-    body += &frame.dots(dots);
+    let mut body = frame.back_steps(&back_steps.data) + &frame.contours(&joined.plate, &drawn);
     body += &frame.jumps(&jumps);
     body += &joined.path.start().map_or(String::new(), |(p, _)| frame.ring(p));
     body += &legend(&frame, joined);
+    let (layers, foot) = layer_legend(&frame, &joined.plate, LEGEND);
+    body += &layers;
     let counts = joined.path.counts();
-    frame.picture(&format!("Retraced path: {}", words::counts(counts)), 16.0, &body)
+    frame.picture(&format!("Retraced path: {}", words::counts(counts)), foot, &body)
+}
+
+/// For each layer the dots of its contours of one point.
+fn dots(plate: &Handed) -> BTreeMap<u32, Drawn> {
+    let mut drawn: BTreeMap<u32, Drawn> = BTreeMap::new();
+    for (contour, &layer) in plate.contours().zip(&plate.layers) {
+        if let [point] = contour.as_slice() {
+            drawn.entry(layer).or_default().dots.push(*point);
+        }
+    }
+    drawn
+}
+
+/// Units under the plate for the legend, and for each row of that of the layers.
+const LEGEND: f64 = 16.0;
+const LAYER_ROW: f64 = 10.0;
+/// Units that are enough for a layer's row, so that two stand side by side.
+const LAYER_COLUMN: f64 = 170.0;
+
+/// A sample of each layer with its counts, below what stands in so many units under the plate; and
+/// the units that are taken then.
+fn layer_legend(frame: &Frame, plate: &Handed, above: f64) -> (String, f64) {
+    let layers = plate.layer_counts();
+    if !plate.is_layered() || layers.is_empty() {
+        return (String::new(), above);
+    }
+    let unit = frame.unit;
+    let columns = if frame.width < 2.0 * LAYER_COLUMN * unit { 1 } else { 2 };
+    let mut body = String::new();
+    for (place, (&layer, &counts)) in layers.iter().enumerate() {
+        let (row, column) = (place / columns, place % columns);
+        let x = frame.left + 7.0 * unit + column as f64 * frame.width / columns as f64;
+        let y = frame.top + frame.height + (above + 1.0 + LAYER_ROW * row as f64) * unit;
+        let mut sample = Drawn::default();
+        sample.lines.add(Point { x, y }, Point { x: x + 22.0 * unit, y });
+        body += &frame.layer(layer, &sample);
+        let at = Point { x: x + 26.0 * unit, y: y + 2.4 * unit };
+        body += &frame.text(at, &words::layer(layer, counts));
+    }
+    let rows = layers.len().div_ceil(columns);
+    (format!("<g id=\"layers\">\n{body}</g>\n"), above + LAYER_ROW * rows as f64)
 }
 
 /// A sample of each style with how many there are.
@@ -204,8 +278,7 @@ fn legend(frame: &Frame, joined: &Joined) -> String {
 /// The contours, and the lines that join each to the next.
 pub fn straight(plate: &Handed, entries: &[Entry], path: &[Point]) -> String {
     let frame = Frame::around(&plate.points);
-    let (mut cuts, mut jumps) = (Lines::default(), Vec::new());
-    let mut dots = Vec::new();
+    let (mut drawn, mut jumps) = (BTreeMap::new(), Vec::new());
     let mut rest = path;
     let mut last: Option<Point> = None;
     for entry in entries {
@@ -213,26 +286,36 @@ pub fn straight(plate: &Handed, entries: &[Entry], path: &[Point]) -> String {
         if let (Some(from), Some(&to)) = (last, contour.first()) {
             jumps.push((from, to));
         }
-        cuts.all(contour);
-        dots.extend(contour.first().filter(|_| contour.len() == 1));
+        add_contour(&mut drawn, plate.layers[entry.contour as usize], contour);
         last = contour.last().copied();
         rest = after;
     }
-    let mut body = frame.cuts(&cuts.data) + &frame.dots(dots.into_iter()) + &frame.jumps(&jumps);
+    let mut body = frame.contours(plate, &drawn) + &frame.jumps(&jumps);
     body += &path.first().map_or(String::new(), |&p| frame.ring(p));
-    frame.picture(&format!("Straight path: {}", words::count(path.len(), "point")), 0.0, &body)
+    let (layers, foot) = layer_legend(&frame, plate, 0.0);
+    body += &layers;
+    frame.picture(&format!("Straight path: {}", words::count(path.len(), "point")), foot, &body)
+}
+
+fn add_contour(drawn: &mut BTreeMap<u32, Drawn>, layer: u32, contour: &[Point]) {
+    let drawn = drawn.entry(layer).or_default();
+    drawn.lines.all(contour);
+    if let [point] = contour {
+        drawn.dots.push(*point);
+    }
 }
 
 /// All contours, and where those of the order begin, numbered from 1.
 pub fn order(plate: &Handed, entries: &[Entry]) -> String {
     let frame = Frame::around(&plate.points);
     let contours: Vec<Vec<Point>> = plate.contours().collect();
-    let mut cuts = Lines::default();
-    for contour in &contours {
-        cuts.all(contour);
+    let mut drawn = BTreeMap::new();
+    for (contour, &layer) in contours.iter().zip(&plate.layers) {
+        if !contour.is_empty() {
+            add_contour(&mut drawn, layer, contour);
+        }
     }
-    let dots = contours.iter().filter(|contour| contour.len() == 1).flatten();
-    let mut body = frame.cuts(&cuts.data) + &frame.dots(dots);
+    let mut body = frame.contours(plate, &drawn);
     for (place, entry) in entries.iter().enumerate() {
         let contour = &contours[entry.contour as usize];
         let first = if entry.reversed { contour.last() } else { contour.first() };
@@ -242,7 +325,16 @@ pub fn order(plate: &Handed, entries: &[Entry]) -> String {
             body += &frame.text(beside, &(place + 1).to_string());
         }
     }
-    frame.picture(&format!("Order: {}", words::count(entries.len(), "contour")), 0.0, &body)
+    let (layers, foot) = layer_legend(&frame, plate, 0.0);
+    body += &layers;
+    frame.picture(&format!("Order: {}", words::count(entries.len(), "contour")), foot, &body)
+}
+
+/// What is drawn of one layer's contours.
+#[derive(Default)]
+struct Drawn {
+    lines: Lines,
+    dots: Vec<Point>,
 }
 
 /// Path data, a line of text a run of lines.

@@ -52,10 +52,11 @@ FAR = [
 ]
 
 
-def text(contours, width, height, start):
+def text(contours, width, height, start, layers=None):
     """The plain text form."""
     lines = [f"size {width} {height}", f"start {start}"]
-    for contour in contours:
+    for place, contour in enumerate(contours):
+        lines += [f"layer {layers[place]}"] if layers else []
         lines += [f"{x!r} {y!r}" for x, y in contour] if contour else ["empty"]
         lines.append("")
     return "\n".join(lines)
@@ -127,6 +128,12 @@ class Expected:
         if groove != reference + 1:
             told = f"a back-step too; the groove is pair {groove:,}, {told}"
         return [f"reverses pair {reference + 1:,}", told]
+
+    def contour(self, pair):
+        """The contour whose groove a pair is or goes back over; of a jump the one landed on."""
+        while self.marks[pair][0] == 2:
+            pair = self.marks[pair][1] + 1
+        return self.locate(self.vertex[pair])[0]
 
     def panel(self, pair):
         """What the panel shows of a pair; numbers as floats."""

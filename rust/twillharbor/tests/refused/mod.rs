@@ -9,7 +9,7 @@ pub const SOUND: [f64; 6] = [LIMIT, -LIMIT, 0.0, -0.0, LIMIT, 5e-324];
 pub fn above_4096_contours(assert: impl Fn(&[f64], &[u32], Refusal)) {
     let lengths = vec![0; 4_096];
     assert(&[], &[&lengths[..], &[0]].concat(), TooManyContours);
-    // Of several the lowest wins: 2, 3, 4 and 5 hold too.
+    // Of several the first tested wins: 2, 3, 4 and 5 hold too.
     assert(&[f64::NAN], &[&lengths[..], &[u32::MAX]].concat(), TooManyContours);
 }
 

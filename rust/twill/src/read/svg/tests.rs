@@ -659,3 +659,159 @@ fn depth_and_number_are_not_limited() {
     assert_eq!(read(&format!("<svg>{sheets}</svg>")), Ok(Plate::default()));
     assert!(before.elapsed() < Duration::from_secs(20), "{:?}", before.elapsed());
 }
+
+/// The numbers of the contours' layers.
+fn layers(content: &str) -> Vec<u32> {
+    plate(content).layers.iter().map(|layer| layer.number).collect()
+}
+
+fn layer_notes(content: &str) -> Vec<String> {
+    plate(content).layer_notes.into_iter().map(|note| note.message).collect()
+}
+
+const LAYER: &str = "<g inkscape:groupmode='layer'";
+
+#[test]
+fn layer_groups_are_layers_in_their_order() {
+    let content = format!(
+        "{LAYER} id='a'><line/><path d='M0 0L1 1M2 2L3 3'/></g>{LAYER} inkscape:label='Frost' id='b'>\
+         <g><line/></g></g>{LAYER}/>{LAYER}><line/></g>"
+    );
+    assert_eq!(layers(&content), [0, 0, 0, 1, 3]);
+    let read = plate(&content);
+    let labels: Vec<_> = read.layers.iter().map(|layer| layer.label.as_deref()).collect();
+    assert_eq!(labels, [Some("a"), Some("a"), Some("a"), Some("Frost"), None]);
+    let places = read.layers.iter().map(|layer| layer.byte.unwrap() - "<svg>".len());
+    assert_eq!(
+        places.collect::<Vec<_>>()[3],
+        content.find("<g inkscape:groupmode='layer' ink").unwrap()
+    );
+    assert_eq!(layer_notes(&content), ["layer groups, in their order: 0 \"a\", 1 \"Frost\", 2, 3"]);
+    // A group of another mode is none, nor is a shape, and what is hidden is passed over.
+    let content = format!(
+        "<g inkscape:groupmode='other'><line/></g><line inkscape:groupmode='layer'/>\
+         {LAYER} display='none'><line/></g>{LAYER}><line/></g>"
+    );
+    assert_eq!(layers(&content), [0, 0, 0]);
+}
+
+#[test]
+fn a_layer_within_a_layer_is_part_of_it() {
+    let content = format!(
+        "{LAYER}><line/>{LAYER}><line/></g><line/></g><g>{LAYER}><line/><g>{LAYER}><line/></g></g></g></g>"
+    );
+    assert_eq!(layers(&content), [0, 0, 0, 1, 1]);
+}
+
+#[test]
+fn a_data_layer_wins() {
+    let content = format!(
+        "{LAYER} data-layer='7'><line/><line data-layer=' 3 '/><g data-layer='16'><line/></g></g>\
+         {LAYER}><line data-layer='0'/><line/></g><a data-layer='2'>{LAYER}><line/></g></a>{LAYER}><line/></g>"
+    );
+    assert_eq!(layers(&content), [7, 3, 16, 0, 1, 2, 3]);
+    let whole = read("<svg data-layer='4'><line/><g data-layer='5'><line/></g></svg>").unwrap();
+    assert_eq!(whole.layers.iter().map(|layer| layer.number).collect::<Vec<_>>(), [4, 5]);
+    // Below 2 to the 32 it is the library that refuses a layer.
+    assert_eq!(layers("<line data-layer='4294967295'/>"), [u32::MAX]);
+}
+
+#[test]
+fn notes_name_the_layer_that_holds_in_each_layer_group() {
+    let on = format!("{LAYER} id='Deep' data-layer='5'><line/></g>{LAYER} id='Fr'><line/></g>");
+    assert_eq!(layers(&on), [5, 1]);
+    assert_eq!(
+        layer_notes(&on),
+        ["layer groups, in their order: 5 \"Deep\", 1 \"Fr\"", "data-layer gives layer 5"]
+    );
+    let around = format!(
+        "<g data-layer='2'>{LAYER} id='O'><line/></g>{LAYER} id='P'><line/></g></g>{LAYER}><line/></g>"
+    );
+    assert_eq!(layers(&around), [2, 2, 2]);
+    assert_eq!(
+        layer_notes(&around),
+        ["layer groups, in their order: 2 \"O\", 2 \"P\", 2", "data-layer gives layer 2"]
+    );
+}
+
+#[test]
+fn notes_tell_which_layers_data_layer_gives() {
+    // Not those that hold for no contour: the first, and the empty group's.
+    let content = "<g data-layer='4'><g data-layer='7'><line data-layer='3'/><line/></g></g>\
+                   <g data-layer='9'/><line data-layer='3'/>";
+    let notes = plate(content).layer_notes;
+    assert_eq!(notes.len(), 1);
+    assert_eq!(notes[0].message, "data-layer gives layers 3 and 7");
+    assert_eq!(notes[0].byte, "<svg>".len() + content.find("7'").unwrap());
+    // One layer group is listed too.
+    let one = format!("{LAYER} id='Deep'><line/></g><line data-layer='3'/>");
+    assert_eq!(
+        layer_notes(&one),
+        ["layer groups, in their order: 0 \"Deep\"", "data-layer gives layer 3"]
+    );
+    let many: String = (0..17).map(|i| format!("<line data-layer='{i}'/>")).collect();
+    assert!(layer_notes(&many)[0].ends_with(", 14 and 15, .."), "{}", layer_notes(&many)[0]);
+}
+
+#[test]
+fn notes_tell_how_many_layer_groups_are_hidden() {
+    let shown = format!("{LAYER}><line/></g>{LAYER}><line/>{LAYER} display='none'/></g>");
+    let hidden = format!("{LAYER} style='display:none'>{LAYER}/><line/></g><g display='none'/>");
+    for (count, told) in [
+        (0, ""),
+        (1, ", and a hidden one that has no number"),
+        (2, ", and 2 hidden ones that have no number"),
+    ] {
+        let content = [hidden.repeat(count), shown.clone()].concat();
+        assert_eq!(layers(&content), [0, 1]);
+        assert_eq!(layer_notes(&content), [format!("layer groups, in their order: 0, 1{told}")]);
+    }
+    // Where all is of layer 0 nothing is told.
+    assert_eq!(layer_notes(&format!("{hidden}{LAYER}><line/></g>")), [""; 0]);
+}
+
+#[test]
+fn a_label_ends_at_its_quote() {
+    let content = format!(
+        "{LAYER} id='a\", 1 \"b'><line/></g>{LAYER} inkscape:label='c\\'><line/></g>{LAYER} id='&#10;'/>"
+    );
+    assert_eq!(
+        layer_notes(&content),
+        [r#"layer groups, in their order: 0 "a\", 1 \"b", 1 "c\\", 2 "\n""#]
+    );
+}
+
+#[test]
+fn contours_outside_of_all_layers_are_of_layer_0_with_a_note() {
+    let content = format!("{LAYER}/>{LAYER}><line/></g><line x2='3'/><polyline points='1 2 3 4'/>");
+    assert_eq!(layers(&content), [1, 0, 0]);
+    let notes = plate(&content).layer_notes;
+    assert_eq!(notes[1].message, "2 contours stand outside of all layers: they are of layer 0");
+    assert_eq!(notes[1].byte, "<svg>".len() + content.find("<line x2").unwrap());
+    let one = layer_notes("<line data-layer='1'/><line/>");
+    assert_eq!(one[1], "one contour stands outside of all layers: it is of layer 0");
+    // Where all is of layer 0 nothing is told.
+    for content in
+        ["<line/>", "<line data-layer='0'/><line/>", &format!("{LAYER}><line/></g><line/>")]
+    {
+        assert_eq!(layer_notes(content), [""; 0], "{content}");
+    }
+    let many = format!("{LAYER}><line/></g>").repeat(17);
+    assert!(layer_notes(&many)[0].ends_with(", 14, 15, .."), "{}", layer_notes(&many)[0]);
+}
+
+#[test]
+fn a_data_layer_is_a_whole_number() {
+    for value in ["", "deep", "-1", "+1", "1.5", "0x1", "4294967296"] {
+        assert_fault(
+            &format!("<svg><g id='frost' data-layer='^{value}'/></svg>"),
+            &format!(
+                "the data-layer of <g id=\"frost\"> is \"{value}\", not a whole number from 0 to 15"
+            ),
+        );
+    }
+    assert_fault(
+        "<svg><line data-layer='^1 2'/></svg>",
+        "the data-layer of <line> is \"1 2\", not a whole number from 0 to 15",
+    );
+}

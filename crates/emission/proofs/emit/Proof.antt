@@ -11,6 +11,35 @@ use borrow.Author.Needs.{needs}
 use Rattle.emission.proofs.emit.Statement.{statement}
 use Rattle.emission.proofs.emit.Tie as tie
 
+-- ---- ways back: from where a call is made to the call before it
+
+abbrev start-of : tie.After-point-at → tie.Start
+start-of c = c .before .before .before .before .before .before .before .before .before
+
+abbrev point-of : tie.After-put-arg3 → tie.After-point-at
+point-of c = c .before .before .before
+
+abbrev landed-of : tie.After-cut-up-arg3 → tie.After-put
+landed-of c = c .before .before .before .before .before .before .before .before .before .before
+
+abbrev up-of : tie.After-slice-known9 → tie.After-cut-up
+up-of c = c .before .before .before .before .before .before
+
+abbrev test-of : tie.After-walk-back-arg3 → tie.Else1
+test-of c = c .before .before .before
+
+abbrev back-of : tie.After-cut-down-arg3 → tie.After-walk-back
+back-of c = c .before .before .before .before .before .before .before .before .before
+
+abbrev down-of : tie.After-slice-known15 → tie.After-cut-down
+down-of c = c .before .before .before .before .before .before
+
+-- the vertex landed on is e vertices behind the first
+vertex-is : (s : tie.Start) → let k = s .args .l in k .contour .first .0 + (k .vertex .0 - k .contour .first .0) ≡ k .vertex .0
+vertex-is s = omega (arith, s .pre)
+
+-- ---- needs
+
 sub-e : tie.Need-sub-e
 sub-e c = search needs
 
@@ -19,9 +48,9 @@ point-at-requires c κs = search needs
 
 put-requires : tie.Need-put-requires
 put-requires c κs =
-    let s = c .before .before .before .before .before .before .before .before .before .before .before .before in
+    let s = start-of (point-of c) in
     let on = point-on (s .args .points .now) (s .args .l .vertex .0) (s .pre .2) (omega (arith, s .pre)) in
-    let e = c .before .before .before .point-at .ensures in
+    let e = point-of c .point-at .ensures in
     (s .pre .0, rw e (on .0), rw e (on .1))
 
 sub-n : tie.Need-sub-n
@@ -29,8 +58,9 @@ sub-n c = search needs
 
 cut-up-requires : tie.Need-cut-up-requires
 cut-up-requires c κs =
-    let s = c .before .before .before .before .before .before .before .before .before .before .before .before .before .before .before .before .before .before .before .before .before .before .before in
-    (c .before .before .before .before .before .before .before .before .before .before .put .ensures .0, s .pre .2, omega (arith, s .pre), omega (arith, s .pre))
+    let landed = landed-of c in
+    let s = start-of (point-of (landed .before)) in
+    (landed .put .ensures .0, s .pre .2, omega (arith, s .pre), omega (arith, s .pre))
 
 same-length : tie.Need-same-length
 same-length c = search needs
@@ -44,63 +74,77 @@ same-length-3 c = search needs
 returns : tie.Need-returns
 unfolding land contourOf
 returns c =
-    let s = c .before .before .before .before .before .before .before .before .before .before .before .before .before .before .before .before .before .before .before .before .before .before .before .before .before .before .before .before .before .before .before in
-    let put = c .before .before .before .before .before .before .before .before .before .before .before .before .before .before .before .before .before .before .put .ensures in
-    let up = c .before .before .before .before .before .before .before .cut-up .ensures in
+    let up = up-of (c .before) in
+    let landed = landed-of (up .before) in
+    let point = point-of (landed .before) in
+    let s = start-of point in
     let k = s .args .l in
     let v = k .vertex .0 in
     let e = v - k .contour .first .0 in
-    let l : k .contour .first .0 + e ≡ v = omega (arith, s .pre) in
-    let at = sym (c .before .before .before .before .before .before .before .before .before .before .before .before .before .before .before .before .before .before .before .before .before .before .point-at .ensures) in (
-      up .0,
-      λ i m. up .1 i m ∙ put .1 i m,
-      λ steps was marked w. rw (drawn-up (k .kind) (contourOf (k .contour)) e v l steps (c .if1 .taken)) (up .2 _ was marked (put .2 _ v at steps was marked w)),
+    let put = landed .put .ensures in
+    let rise = up .cut-up .ensures in (
+      rise .0,
+      λ i m. rise .1 i m ∙ put .1 i m,
+      λ steps was marked w. rw (drawn-up (k .kind) (contourOf (k .contour)) e v (vertex-is s) steps (c .if1 .taken)) (rise .2 _ was marked (put .2 _ v (sym (point .point-at .ensures)) steps was marked w)),
     )
 
 walk-back-requires : tie.Need-walk-back-requires
 walk-back-requires c κs =
-    let s = c .before .before .before .before .before .before .before .before .before .before .before .before .before .before .before .before .before .before .before .before .before .before .before .before .before .before .before .before .before .before .before .before .before .before in
-    let put = c .before .before .before .before .before .before .before .before .before .before .before .before .before .before .before .before .before .before .before .before .before .put .ensures in
-    let up = c .before .before .before .before .before .before .before .before .before .before .cut-up .ensures in
-    (up .0, λ m. omega (arith, put .4 (s .pre .1), up .3))
+    let up = up-of (test-of c .before) in
+    let landed = landed-of (up .before) in
+    let s = start-of (point-of (landed .before)) in
+    (up .cut-up .ensures .0, λ m. omega (arith, landed .put .ensures .4 (s .pre .1), up .cut-up .ensures .3))
 
 cut-down-requires : tie.Need-cut-down-requires
 cut-down-requires c κs =
-    let s = c .before .before .before .before .before .before .before .before .before .before .before .before .before .before .before .before .before .before .before .before .before .before .before .before .before .before .before .before .before .before .before .before .before .before .before .before .before .before .before .before .before .before .before .before in
-    (c .before .before .before .before .before .before .before .before .before .walk-back .ensures .0, s .pre .2, omega (arith, s .pre), omega (arith, s .pre))
+    let back = back-of c in
+    let s = start-of (point-of (landed-of (up-of (test-of (back .before) .before) .before) .before)) in
+    (back .walk-back .ensures .0, s .pre .2, omega (arith, s .pre), omega (arith, s .pre))
 
 same-length-4 : tie.Need-same-length-4
-same-length-4 c = c .before .before .before .before .before .before .cut-down .kept .1 .1 .1 .0 ∙ c .before .before .before .before .before .before .before .before .before .before .before .before .before .before .before .before .walk-back .kept .1 .1 .0 ∙ c .before .before .before .before .before .before .before .before .before .before .before .before .before .before .before .before .before .before .before .before .before .before .before .before .before .before .before .cut-up .kept .1 .1 .1 .0 ∙ c .before .before .before .before .before .before .before .before .before .before .before .before .before .before .before .before .before .before .before .before .before .before .before .before .before .before .before .before .before .before .before .before .before .before .before .before .before .before .put .kept .1 .1 .0
+same-length-4 c =
+    let down = down-of c in
+    let back = back-of (down .before) in
+    let up = up-of (test-of (back .before) .before) in
+    down .cut-down .kept .1 .1 .1 .0 ∙ back .walk-back .kept .1 .1 .0 ∙ up .cut-up .kept .1 .1 .1 .0 ∙ landed-of (up .before) .put .kept .1 .1 .0
 
 same-length-5 : tie.Need-same-length-5
 same-length-5 c =
-    c .before .before .before .before .before .before .cut-down .kept .1 .1 .1 .1 .0 ∙ c .before .before .before .before .before .before .before .before .before .before .before .before .before .before .before .before .walk-back .kept .1 .1 .1 .0 ∙ c .before .before .before .before .before .before .before .before .before .before .before .before .before .before .before .before .before .before .before .before .before .before .before .before .before .before .before .cut-up .kept .1 .1 .1 .1 .0
-    ∙ c .before .before .before .before .before .before .before .before .before .before .before .before .before .before .before .before .before .before .before .before .before .before .before .before .before .before .before .before .before .before .before .before .before .before .before .before .before .before .put .kept .1 .1 .1 .0
+    let down = down-of c in
+    let back = back-of (down .before) in
+    let up = up-of (test-of (back .before) .before) in
+    down .cut-down .kept .1 .1 .1 .1 .0 ∙ back .walk-back .kept .1 .1 .1 .0 ∙ up .cut-up .kept .1 .1 .1 .1 .0 ∙ landed-of (up .before) .put .kept .1 .1 .1 .0
 
 same-length-6 : tie.Need-same-length-6
 same-length-6 c =
-    c .before .before .before .before .before .before .cut-down .kept .1 .1 .1 .1 .1 .0 ∙ c .before .before .before .before .before .before .before .before .before .before .before .before .before .before .before .before .walk-back .kept .1 .1 .1 .1 .0 ∙ c .before .before .before .before .before .before .before .before .before .before .before .before .before .before .before .before .before .before .before .before .before .before .before .before .before .before .before .cut-up .kept .1 .1 .1 .1 .1 .0
-    ∙ c .before .before .before .before .before .before .before .before .before .before .before .before .before .before .before .before .before .before .before .before .before .before .before .before .before .before .before .before .before .before .before .before .before .before .before .before .before .before .put .kept .1 .1 .1 .1 .0
+    let down = down-of c in
+    let back = back-of (down .before) in
+    let up = up-of (test-of (back .before) .before) in
+    down .cut-down .kept .1 .1 .1 .1 .1 .0 ∙ back .walk-back .kept .1 .1 .1 .1 .0 ∙ up .cut-up .kept .1 .1 .1 .1 .1 .0 ∙ landed-of (up .before) .put .kept .1 .1 .1 .1 .0
 
 returns-2 : tie.Need-returns-2
 unfolding land contourOf
 returns-2 c =
-    let s = c .before .before .before .before .before .before .before .before .before .before .before .before .before .before .before .before .before .before .before .before .before .before .before .before .before .before .before .before .before .before .before .before .before .before .before .before .before .before .before .before .before .before .before .before .before .before .before .before .before .before .before in
-    let put = c .before .before .before .before .before .before .before .before .before .before .before .before .before .before .before .before .before .before .before .before .before .before .before .before .before .before .before .before .before .before .before .before .before .before .before .before .before .before .put .ensures in
-    let up = c .before .before .before .before .before .before .before .before .before .before .before .before .before .before .before .before .before .before .before .before .before .before .before .before .before .before .before .cut-up .ensures in
-    let back = c .before .before .before .before .before .before .before .before .before .before .before .before .before .before .before .before .walk-back .ensures in
-    let down = c .before .before .before .before .before .before .cut-down .ensures in
+    let down = down-of c in
+    let back = back-of (down .before) in
+    let test = test-of (back .before) in
+    let up = up-of (test .before) in
+    let landed = landed-of (up .before) in
+    let point = point-of (landed .before) in
+    let s = start-of point in
     let k = s .args .l in
     let v = k .vertex .0 in
     let e = v - k .contour .first .0 in
-    let l : k .contour .first .0 + e ≡ v = omega (arith, s .pre) in
-    let at = sym (c .before .before .before .before .before .before .before .before .before .before .before .before .before .before .before .before .before .before .before .before .before .before .before .before .before .before .before .before .before .before .before .before .before .before .before .before .before .before .before .before .before .before .point-at .ensures) in (
-      down .0,
-      λ i m. down .1 i m ∙ back .1 i m ∙ up .1 i m ∙ put .1 i m,
+    let put = landed .put .ensures in
+    let rise = up .cut-up .ensures in
+    let walk = back .walk-back .ensures in
+    let fall = down .cut-down .ensures in (
+      fall .0,
+      λ i m. fall .1 i m ∙ walk .1 i m ∙ rise .1 i m ∙ put .1 i m,
       λ steps was marked w.
           let n : length steps ≡ s .args .count = omega (arith, w .counted, s .pre .1) in
-          rw (drawn-down (k .kind) (contourOf (k .contour)) e v l steps (λ z. c .before .before .before .before .before .before .before .before .before .before .before .before .before .before .before .before .before .before .before .before .if1 .left z), n)
-          (down .2 _ was marked (back .2 _ _ was marked (up .2 _ was marked (put .2 _ v at steps was marked w)))),
+          rw (drawn-down (k .kind) (contourOf (k .contour)) e v (vertex-is s) steps (λ z. test .if1 .left z), n)
+          (fall .2 _ was marked (walk .2 _ _ was marked (rise .2 _ was marked (put .2 _ v (sym (point .point-at .ensures)) steps was marked w)))),
     )
 
 pub emit-spec : {M : Type 1} → statement M

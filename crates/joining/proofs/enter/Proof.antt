@@ -1,22 +1,56 @@
 -- `joining::enter` meets its contract. Assumes nothing.
-use mathlib.Core.Path.{ap, _∙_}
+use mathlib.Core.Path.{_≡_, ap, _∙_}
 use Prim.Native.Nat.{_-_}
 use native.Mathlib.Omega.{arith}
+use Rattle.rules.specs.GridAndNearest.{nearest}
 use Rattle.rules.specs.RetraceAndMarks.{placeIn}
 use Rattle.start.specs.Oriented.{contourOf}
 use Rattle.path.specs.Accepted.{point-on}
+use Rattle.history.specs.History.{points}
 use Rattle.joining.proofs.Entering.{found-below, enter-full, enter-drawn}
 use borrow.Author.Needs.{needs}
 use Rattle.joining.proofs.enter.Statement.{statement}
 use Rattle.joining.proofs.enter.Tie as tie
+
+-- ---- ways back: from where a call is made to the call before it
+
+abbrev start-of : tie.After-point-at → tie.Start
+start-of c = c .before .before .before .before .before
+
+abbrev point-of : tie.After-nearest-arg2 → tie.After-point-at
+point-of c = c .before .before
+
+abbrev place-of : tie.After-walk-back-arg3 → tie.After-place-in
+place-of c = c .before .before .before
+
+abbrev back-of : tie.After-slice-known6 → tie.After-walk-back
+back-of c = c .before .before .before .before .before .before
+
+abbrev test-of : tie.After-emit-arg3 → tie.Else1
+test-of c = c .before .before .before
+
+abbrev emit-of : tie.After-slice-known9 → tie.After-emit
+emit-of c = c .before .before .before .before .before .before
+
+-- the point that is queried, before the place is found
+abbrev query-of : tie.After-place-in → tie.After-point-at
+query-of c = point-of (c .before .before)
+
+-- the place found is the rules'
+place-is : (c : tie.After-place-in) →
+    let s = start-of (query-of c) in
+    c .place-in .result .0 ≡ placeIn (nearest (s .args .g) (points (s .args .path .now) (s .args .count)) (query-of c .point-at .result))
+place-is c = c .place-in .ensures ∙ ap placeIn (c .before .nearest .ensures)
+
+-- ---- needs
 
 point-at-requires : tie.Need-point-at-requires
 point-at-requires c κs = search needs
 
 nearest-requires : tie.Need-nearest-requires
 nearest-requires c κs =
-    let s = c .before .before .before .before .before .before .before in
-    let e = c .before .before .point-at .ensures in
+    let s = start-of (point-of c) in
+    let e = point-of c .point-at .ensures in
     let on = point-on (s .args .points .now) (s .args .v .0) (s .pre .3) (omega (arith, s .pre)) in
     (s .pre .0 .ready (s .pre .1), s .pre .0 .sane, (rw e (on .0), rw e (on .1)))
 
@@ -25,9 +59,9 @@ place-in-requires c κs = search needs
 
 walk-back-requires : tie.Need-walk-back-requires
 walk-back-requires c κs =
-    let s = c .before .before .before .before .before .before .before .before .before .before .before .before in
-    let e = c .before .before .before .place-in .ensures ∙ ap placeIn (c .before .before .before .before .nearest .ensures) in
-    (s .pre .0, λ m. rw e (found-below _ _ _ _ (s .pre .2)))
+    let place = place-of c in
+    let s = start-of (query-of place) in
+    (s .pre .0, λ m. rw (place-is place) (found-below _ _ _ _ (s .pre .2)))
 
 same-length : tie.Need-same-length
 same-length c = search needs
@@ -41,20 +75,24 @@ same-length-3 c = search needs
 returns : tie.Need-returns
 unfolding contourOf
 returns c =
-    let s = c .before .before .before .before .before .before .before .before .before .before .before .before .before .before .before .before .before .before .before .before in
-    let back = c .before .before .before .before .before .before .before .walk-back .ensures in (
-      back .0,
-      back .1,
+    let back = back-of (c .before) in
+    let place = place-of (back .before) in
+    let query = query-of place in
+    let s = start-of query in
+    let walk = back .walk-back .ensures in (
+      walk .0,
+      walk .1,
       λ p w e of entry.
           enter-full (s .args .points .now) p e (s .args .g) w (contourOf (s .args .c)) of (s .args .v .0) entry (s .pre .5) (s .args .room) (s .args .count)
-          (s .pre .1) (s .args .path .now) (s .args .marks .now) _ (c .before .before .before .before .before .before .before .before .before .before .before .before .before .before .before .point-at .ensures) _
-          (c .before .before .before .before .before .before .before .before .before .before .before .place-in .ensures ∙ ap placeIn (c .before .before .before .before .before .before .before .before .before .before .before .before .nearest .ensures)) _ _ _ (back .2 _) (c .if1 .taken),
+          (s .pre .1) (s .args .path .now) (s .args .marks .now) _ (query .point-at .ensures) _ (place-is place) _ _ _ (walk .2 _) (c .if1 .taken),
     )
 
 emit-requires : tie.Need-emit-requires
 emit-requires c κs =
-    let s = c .before .before .before .before .before .before .before .before .before .before .before .before .before .before .before .before .before .before .before .before .before .before .before in
-    (c .before .before .before .before .before .before .before .before .before .before .walk-back .ensures .0, omega (arith, c .before .before .before .if1 .left), s .pre .3, s .pre .4, s .pre .5, s .pre .6, s .pre .7)
+    let test = test-of c in
+    let back = back-of (test .before) in
+    let s = start-of (query-of (place-of (back .before))) in
+    (back .walk-back .ensures .0, omega (arith, test .if1 .left), s .pre .3, s .pre .4, s .pre .5, s .pre .6, s .pre .7)
 
 same-length-4 : tie.Need-same-length-4
 same-length-4 c = search needs
@@ -68,15 +106,18 @@ same-length-6 c = search needs
 returns-2 : tie.Need-returns-2
 unfolding contourOf
 returns-2 c =
-    let s = c .before .before .before .before .before .before .before .before .before .before .before .before .before .before .before .before .before .before .before .before .before .before .before .before .before .before .before .before .before .before in
-    let back = c .before .before .before .before .before .before .before .before .before .before .before .before .before .before .before .before .before .walk-back .ensures in
-    let on = c .before .before .before .before .before .before .emit .ensures in (
+    let emitted = emit-of c in
+    let back = back-of (test-of (emitted .before) .before) in
+    let place = place-of (back .before) in
+    let query = query-of place in
+    let s = start-of query in
+    let walk = back .walk-back .ensures in
+    let on = emitted .emit .ensures in (
       on .0,
-      λ i l. on .1 i l ∙ back .1 i l,
+      λ i l. on .1 i l ∙ walk .1 i l,
       λ p w e of entry.
           enter-drawn (s .args .points .now) p e (s .args .g) w (contourOf (s .args .c)) of (s .args .v .0) entry (s .pre .5) (s .args .room) (s .args .count)
-          (s .pre .1) (s .args .path .now) (s .args .marks .now) _ (c .before .before .before .before .before .before .before .before .before .before .before .before .before .before .before .before .before .before .before .before .before .before .before .before .before .point-at .ensures) _
-          (c .before .before .before .before .before .before .before .before .before .before .before .before .before .before .before .before .before .before .before .before .before .place-in .ensures ∙ ap placeIn (c .before .before .before .before .before .before .before .before .before .before .before .before .before .before .before .before .before .before .before .before .before .before .nearest .ensures)) _ _ _ (back .2 _) _ _ _ (on .2),
+          (s .pre .1) (s .args .path .now) (s .args .marks .now) _ (query .point-at .ensures) _ (place-is place) _ _ _ (walk .2 _) _ _ _ (on .2),
     )
 
 pub enter-spec : {M : Type 1} → statement M

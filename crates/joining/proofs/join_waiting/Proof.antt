@@ -1,8 +1,9 @@
 -- `joining::join_waiting` meets its contract. Assumes nothing.
-use mathlib.Core.Path.{_∙_}
+use mathlib.Core.Path.{subst}
 use Prim.Native.Nat.{_-_}
 use native.Mathlib.Omega.{arith}
-use Rattle.joining.proofs.Looping.{Looping, looping-start, loop-laid, loop-room, loop-layers, loop-pen, loop-fits, loop-some, loop-on-plate, loop-ends, loop-within, loop-turn, loop-full, loop-querying, loop-flags, loop-next}
+use Rattle.choosing.specs.declared.Chosen.the-variants.{Candidate}
+use Rattle.joining.proofs.Looping.{Looping, Chooses, looping-start, loop-laid, loop-room, loop-layers, loop-pen, loop-fits, loop-some, loop-on-plate, loop-ends, loop-within, loop-turn, loop-full, loop-querying, loop-flags, loop-next}
 use borrow.Author.Needs.{needs}
 use Rattle.joining.proofs.join_waiting.Statement.{statement}
 use Rattle.joining.proofs.join_waiting.Tie as tie
@@ -14,12 +15,48 @@ Inv-loop points g room path₀ marks₀ work₀ distances₀ lay count layers k�
 abbrev μ-loop : tie.MeasureT-loop
 μ-loop points g room path₀ marks₀ work₀ distances₀ lay count layers k₀ turn₀ path marks work distances k turn = lay .contours - turn
 
+-- ---- ways back: from where a call is made to the call before it, and to the loop's head
+
+abbrev start-of : tie.After-shared-slice-known2 Inv-loop μ-loop → tie.Start Inv-loop μ-loop
+start-of c = c .before .before .before .before .before .before
+
+abbrev loop-of : tie.After-choose-waiting-arg2 Inv-loop μ-loop → tie.At-loop Inv-loop μ-loop
+loop-of c = c .before .before
+
+abbrev nobody-of : tie.After-enum-told Inv-loop μ-loop → tie.After-choose-waiting Inv-loop μ-loop
+nobody-of c = c .before .before
+
+abbrev choice-of : tie.After-known-told Inv-loop μ-loop → tie.After-choose-waiting Inv-loop μ-loop
+choice-of c = c .before .before .before
+
+abbrev told-of : tie.After-enter-arg3 Inv-loop μ-loop → tie.After-known-told Inv-loop μ-loop
+told-of c = c .before .before .before
+
+abbrev enter-of : tie.After-slice-known7 Inv-loop μ-loop → tie.After-enter Inv-loop μ-loop
+enter-of c = c .before .before .before .before .before .before
+
+abbrev test-of : tie.After-settle-arg3 Inv-loop μ-loop → tie.Else1 Inv-loop μ-loop
+test-of c = c .before .before .before
+
+abbrev settle-of : tie.After-slice-known9 Inv-loop μ-loop → tie.After-settle Inv-loop μ-loop
+settle-of c = c .before .before .before .before
+
+-- the head of the turn in which a contour is chosen
+abbrev turn-of : tie.After-known-told Inv-loop μ-loop → tie.At-loop Inv-loop μ-loop
+turn-of c = loop-of (choice-of c .before)
+
+-- the contour and its vertex are what the rules choose
+chosen : (c : tie.After-known-told Inv-loop μ-loop) → Chooses _ _ _ _ _ _ _ _ _ _ _ _ _ _ _ _ (turn-of c .loop .inv) (Candidate (c .before .c .given .0 .0) (c .before .c .given .0 .1 .0))
+chosen c = subst (Chooses _ _ _ _ _ _ _ _ _ _ _ _ _ _ _ _ (turn-of c .loop .inv)) (c .before .c .given .1) (choice-of c .choose-waiting .ensures)
+
+-- ---- needs
+
 loop-holds : tie.Need-loop-holds Inv-loop μ-loop
-loop-holds c = looping-start _ _ _ _ _ _ _ _ _ _ (c .before .before .before .before .before .before .pre)
+loop-holds c = looping-start _ _ _ _ _ _ _ _ _ _ (start-of c .pre)
 
 choose-waiting-requires : tie.Need-choose-waiting-requires Inv-loop μ-loop
 choose-waiting-requires c κs =
-    let h = c .before .before .loop .inv in
+    let h = loop-of c .loop .inv in
     (loop-laid _ _ _ _ _ _ _ _ _ _ _ _ _ _ _ _ h, loop-room _ _ _ _ _ _ _ _ _ _ _ _ _ _ _ _ h, loop-layers _ _ _ _ _ _ _ _ _ _ _ _ _ _ _ _ h)
 
 enum-known-c : tie.Need-enum-known-c Inv-loop μ-loop
@@ -30,71 +67,83 @@ enum-told c = search needs
 
 add-turn : tie.Need-add-turn Inv-loop μ-loop
 add-turn c =
-    let h = c .before .before .before .before .before .before .loop .inv in
-    let n = rw (c .before .c .given .1) at (c .before .before .before .choose-waiting .ensures) in
-    omega (arith, loop-turn _ _ _ _ _ _ _ _ _ _ _ _ _ _ _ _ h _ _ n, loop-laid _ _ _ _ _ _ _ _ _ _ _ _ _ _ _ _ h .contours-small)
+    let h = turn-of c .loop .inv in
+    omega (arith, loop-turn _ _ _ _ _ _ _ _ _ _ _ _ _ _ _ _ h _ _ (chosen c), loop-laid _ _ _ _ _ _ _ _ _ _ _ _ _ _ _ _ h .contours-small)
 
 enter-requires : tie.Need-enter-requires Inv-loop μ-loop
 enter-requires c κs =
-    let h = c .before .before .before .before .before .before .before .before .before .loop .inv in
-    let n = rw (c .before .before .before .before .c .given .1) at (c .before .before .before .before .before .before .choose-waiting .ensures) in
-    let w = loop-within _ _ _ _ _ _ _ _ _ _ _ _ _ _ _ _ h _ _ n in
+    let told = told-of c in
+    let h = turn-of told .loop .inv in
+    let w = loop-within _ _ _ _ _ _ _ _ _ _ _ _ _ _ _ _ h _ _ (chosen told) in
     (loop-pen _ _ _ _ _ _ _ _ _ _ _ _ _ _ _ _ h, loop-fits _ _ _ _ _ _ _ _ _ _ _ _ _ _ _ _ h, loop-some _ _ _ _ _ _ _ _ _ _ _ _ _ _ _ _ h, loop-on-plate _ _ _ _ _ _ _ _ _ _ _ _ _ _ _ _ h, w .low, w .high, w .small, w .long)
 
 same-length : tie.Need-same-length Inv-loop μ-loop
-same-length c = c .before .before .before .before .before .before .before .enter .kept .1 .1 .1 .0 ∙ c .before .before .before .before .before .before .before .before .before .before .before .before .before .before .before .before .before .loop .inv .same-path
+same-length c = search needs
 
 same-length-2 : tie.Need-same-length-2 Inv-loop μ-loop
-same-length-2 c = c .before .before .before .before .before .before .before .enter .kept .1 .1 .1 .1 .0 ∙ c .before .before .before .before .before .before .before .before .before .before .before .before .before .before .before .before .before .loop .inv .same-marks
+same-length-2 c = search needs
 
 same-length-3 : tie.Need-same-length-3 Inv-loop μ-loop
-same-length-3 c = c .before .before .before .before .before .before .before .enter .kept .1 .1 .1 .1 .1 .0 ∙ c .before .before .before .before .before .before .before .before .before .before .before .before .before .before .before .before .before .loop .inv .same-work
+same-length-3 c = search needs
 
 same-length-4 : tie.Need-same-length-4 Inv-loop μ-loop
-same-length-4 c = c .before .before .before .before .before .before .before .before .before .before .before .before .before .before .before .before .before .loop .inv .same-ds
+same-length-4 c = search needs
 
 returns : tie.Need-returns Inv-loop μ-loop
 returns c =
-    let h = c .before .before .before .before .before .before .before .before .before .before .before .before .before .before .before .before .before .loop .inv in
-    let n = rw (c .before .before .before .before .before .before .before .before .before .before .before .before .c .given .1) at (c .before .before .before .before .before .before .before .before .before .before .before .before .before .before .choose-waiting .ensures) in
-    loop-full _ _ _ _ _ _ _ _ _ _ _ _ _ _ _ _ h _ _ n _ _ _ _ (c .before .before .before .before .before .before .before .enter .ensures .0) (c .before .before .before .before .before .before .before .enter .ensures .1) (c .before .before .before .before .before .before .before .enter .kept .1 .1 .1 .0) (c .before .before .before .before .before .before .before .enter .kept .1 .1 .1 .1 .0) (c .before .before .before .before .before .before .before .enter .kept .1 .1 .1 .1 .1 .0) (c .before .before .before .before .before .before .before .enter .ensures .2) (c .if1 .taken)
+    let entered = enter-of (c .before) in
+    let told = told-of (entered .before) in
+    let e = entered .enter in
+    loop-full _ _ _ _ _ _ _ _ _ _ _ _ _ _ _ _ (turn-of told .loop .inv) _ _ (chosen told) _ _ _ _ (e .ensures .0) (e .ensures .1) (e .kept .1 .1 .1 .0) (e .kept .1 .1 .1 .1 .0) (e .kept .1 .1 .1 .1 .1 .0)
+    (e .ensures .2) (c .if1 .taken)
 
 settle-requires : tie.Need-settle-requires Inv-loop μ-loop
 settle-requires c κs =
-    let h = c .before .before .before .before .before .before .before .before .before .before .before .before .before .before .before .before .before .before .before .before .loop .inv in
-    let n = rw (c .before .before .before .before .before .before .before .before .before .before .before .before .before .before .before .c .given .1) at (c .before .before .before .before .before .before .before .before .before .before .before .before .before .before .before .before .before .choose-waiting .ensures) in
-    let w = loop-within _ _ _ _ _ _ _ _ _ _ _ _ _ _ _ _ h _ _ n in
-    (loop-querying _ _ _ _ _ _ _ _ _ _ _ _ _ _ _ _ h _ _ n _ _ _ _ (c .before .before .before .before .before .before .before .before .before .before .enter .ensures .0) (c .before .before .before .before .before .before .before .before .before .before .enter .ensures .1) (c .before .before .before .before .before .before .before .before .before .before .enter .kept .1 .1 .1 .0) (c .before .before .before .before .before .before .before .before .before .before .enter .kept .1 .1 .1 .1 .0) (c .before .before .before .before .before .before .before .before .before .before .enter .kept .1 .1 .1 .1 .1 .0) (c .before .before .before .before .before .before .before .before .before .before .enter .ensures .2) (omega (arith, c .before .before .before .if1 .left)), w .number, w .points, loop-flags _ _ _ _ _ _ _ _ _ _ _ _ _ _ _ _ h _ _ n _ _ _ _ (c .before .before .before .before .before .before .before .before .before .before .enter .ensures .0) (c .before .before .before .before .before .before .before .before .before .before .enter .ensures .1) (c .before .before .before .before .before .before .before .before .before .before .enter .kept .1 .1 .1 .0) (c .before .before .before .before .before .before .before .before .before .before .enter .kept .1 .1 .1 .1 .0) (c .before .before .before .before .before .before .before .before .before .before .enter .kept .1 .1 .1 .1 .1 .0) (c .before .before .before .before .before .before .before .before .before .before .enter .ensures .2))
+    let test = test-of c in
+    let entered = enter-of (test .before) in
+    let told = told-of (entered .before) in
+    let h = turn-of told .loop .inv in
+    let n = chosen told in
+    let e = entered .enter in
+    let w = loop-within _ _ _ _ _ _ _ _ _ _ _ _ _ _ _ _ h _ _ n in (
+      loop-querying _ _ _ _ _ _ _ _ _ _ _ _ _ _ _ _ h _ _ n _ _ _ _ (e .ensures .0) (e .ensures .1) (e .kept .1 .1 .1 .0) (e .kept .1 .1 .1 .1 .0) (e .kept .1 .1 .1 .1 .1 .0) (e .ensures .2) (omega (arith, test .if1 .left)),
+      w .number,
+      w .points,
+      loop-flags _ _ _ _ _ _ _ _ _ _ _ _ _ _ _ _ h _ _ n _ _ _ _ (e .ensures .0) (e .ensures .1) (e .kept .1 .1 .1 .0) (e .kept .1 .1 .1 .1 .0) (e .kept .1 .1 .1 .1 .1 .0) (e .ensures .2),
+    )
 
 loop-less : tie.Need-loop-less Inv-loop μ-loop
 loop-less c =
-    let n = rw (c .before .before .before .before .before .before .before .before .before .before .before .before .before .before .before .before .before .before .before .before .c .given .1) at (c .before .before .before .before .before .before .before .before .before .before .before .before .before .before .before .before .before .before .before .before .before .before .choose-waiting .ensures) in
-    omega (arith, loop-turn _ _ _ _ _ _ _ _ _ _ _ _ _ _ _ _ (c .before .before .before .before .before .before .before .before .before .before .before .before .before .before .before .before .before .before .before .before .before .before .before .before .before .loop .inv) _ _ n)
+    let told = told-of (enter-of (test-of (settle-of c .before) .before) .before) in
+    omega (arith, loop-turn _ _ _ _ _ _ _ _ _ _ _ _ _ _ _ _ (turn-of told .loop .inv) _ _ (chosen told))
 
 loop-again : tie.Need-loop-again Inv-loop μ-loop
 loop-again c =
-    let h = c .before .before .before .before .before .before .before .before .before .before .before .before .before .before .before .before .before .before .before .before .before .before .before .before .before .loop .inv in
-    let n = rw (c .before .before .before .before .before .before .before .before .before .before .before .before .before .before .before .before .before .before .before .before .c .given .1) at (c .before .before .before .before .before .before .before .before .before .before .before .before .before .before .before .before .before .before .before .before .before .before .choose-waiting .ensures) in
-    let t = c .before .before .before .before .settle in
-    loop-next _ _ _ _ _ _ _ _ _ _ _ _ _ _ _ _ h _ _ n _ _ _ _ (c .before .before .before .before .before .before .before .before .before .before .before .before .before .before .before .enter .ensures .0) (c .before .before .before .before .before .before .before .before .before .before .before .before .before .before .before .enter .ensures .1) (c .before .before .before .before .before .before .before .before .before .before .before .before .before .before .before .enter .kept .1 .1 .1 .0) (c .before .before .before .before .before .before .before .before .before .before .before .before .before .before .before .enter .kept .1 .1 .1 .1 .0) (c .before .before .before .before .before .before .before .before .before .before .before .before .before .before .before .enter .kept .1 .1 .1 .1 .1 .0) (c .before .before .before .before .before .before .before .before .before .before .before .before .before .before .before .enter .ensures .2) (omega (arith, c .before .before .before .before .before .before .before .before .if1 .left)) _ _
-    (t .kept .1 .1 .0) (t .kept .1 .1 .1 .0) (t .ensures .0) (t .ensures .1) (t .ensures .2) (t .ensures .3)
+    let settled = settle-of c in
+    let test = test-of (settled .before) in
+    let entered = enter-of (test .before) in
+    let told = told-of (entered .before) in
+    let e = entered .enter in
+    let t = settled .settle in
+    loop-next _ _ _ _ _ _ _ _ _ _ _ _ _ _ _ _ (turn-of told .loop .inv) _ _ (chosen told) _ _ _ _ (e .ensures .0) (e .ensures .1) (e .kept .1 .1 .1 .0) (e .kept .1 .1 .1 .1 .0) (e .kept .1 .1 .1 .1 .1 .0)
+    (e .ensures .2) (omega (arith, test .if1 .left)) _ _ (t .kept .1 .1 .0) (t .kept .1 .1 .1 .0) (t .ensures .0) (t .ensures .1) (t .ensures .2) (t .ensures .3)
 
 same-length-5 : tie.Need-same-length-5 Inv-loop μ-loop
-same-length-5 c = c .before .before .before .before .before .loop .inv .same-path
+same-length-5 c = search needs
 
 same-length-6 : tie.Need-same-length-6 Inv-loop μ-loop
-same-length-6 c = c .before .before .before .before .before .loop .inv .same-marks
+same-length-6 c = search needs
 
 same-length-7 : tie.Need-same-length-7 Inv-loop μ-loop
-same-length-7 c = c .before .before .before .before .before .loop .inv .same-work
+same-length-7 c = search needs
 
 same-length-8 : tie.Need-same-length-8 Inv-loop μ-loop
-same-length-8 c = c .before .before .before .before .before .loop .inv .same-ds
+same-length-8 c = search needs
 
 returns-2 : tie.Need-returns-2 Inv-loop μ-loop
 returns-2 c =
-    let n = rw (c .enum-told .given .1) at (c .before .before .choose-waiting .ensures) in
-    loop-ends _ _ _ _ _ _ _ _ _ _ _ _ _ _ _ _ (c .before .before .before .before .before .loop .inv) n
+    let h = loop-of (nobody-of c .before) .loop .inv in
+    loop-ends _ _ _ _ _ _ _ _ _ _ _ _ _ _ _ _ h (subst (Chooses _ _ _ _ _ _ _ _ _ _ _ _ _ _ _ _ h) (c .enum-told .given .1) (nobody-of c .choose-waiting .ensures))
 
 pub join-waiting-spec : {M : Type 1} → statement M
 join-waiting-spec =

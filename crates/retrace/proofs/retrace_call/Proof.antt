@@ -1,37 +1,102 @@
 -- `retrace::retrace_call` meets its contract. Assumes nothing.
-use mathlib.Core.Path.{_≡_, sym, ap, _∙_}
+use mathlib.Core.Path.{_≡_, sym, ap, subst, _∙_}
+use mathlib.Core.List.{List}
+use Prim.Native.Nat.{ℕ, _+_, _*_, _≤_}
 use native.Mathlib.Omega.{arith}
+use lib.Ieee.{Float}
 use lib.ListN.{length}
 use Rattle.rules.specs.Tools.{sum}
-use Rattle.rules.specs.HandedOver.{Plate, plate, gives, refusal, checked, over, retraceAnswer, retraceRoom}
+use Rattle.rules.specs.HandedOver.{Plate, plate, Answer, gives, refusal, checked, retraceAnswer, retraceRoom}
+use Rattle.rules.specs.declared.Counts.{Counts}
 use Rattle.rules.specs.RetraceAndMarks.{retrace}
 use Rattle.path.specs.Accepted.{Accepted, checked-gives}
 use Rattle.plate.specs.Answer.{checkedAnswer}
-use Rattle.retrace.proofs.Outcome.{met-refused, met-short, met-short-distances, met-full, met-whole, counted, divides}
+use Rattle.path_points.specs.Wrote.{Wrote}
+use Rattle.retrace.proofs.Outcome.{Met, Divided, met-refused, met-short, met-short-distances, met-full, met-whole, counted, divides}
 use borrow.Author.Needs.{needs}
 use Rattle.retrace.proofs.retrace_call.Statement.{statement}
 use Rattle.retrace.proofs.retrace_call.Tie as tie
+
+-- ---- ways back: from where a call is made to the call before it
+
+abbrev start-of : tie.After-check → tie.Start
+start-of c = c .before .before .before .before .before .before .before .before
+
+abbrev refused-of : tie.After-known-told → tie.After-check
+refused-of c = c .before .before .before
+
+abbrev check-of : tie.After-enum-told → tie.After-check
+check-of c = c .before .before
+
+abbrev told-of : tie.After-least2 → tie.After-enum-told
+told-of c = c .before .before
+
+abbrev test-of : tie.After-join-retrace-arg4 → tie.Else2
+test-of c = c .before .before .before .before
+
+abbrev join-of : tie.After-slice-known8 → tie.After-join-retrace
+join-of c = c .before .before .before .before .before .before .before .before
+
+-- where the room is worked out, before the tests that there is enough
+abbrev room-of : tie.Else1 → tie.After-least2
+room-of c = c .before
+
+-- the start, from where the room is worked out
+abbrev origin-of : tie.After-least2 → tie.Start
+origin-of c = start-of (check-of (told-of c))
+
+-- ---- what holds there
 
 -- the plate that is handed over
 abbrev handed : tie.Start → Plate
 handed s = plate (s .args .points .now) (s .args .lengths .now) (s .args .layers .now) (s .args .width) (s .args .height) (s .args .strategy)
 
--- a plate that passed the checks
+-- a plate that did not pass the checks
+unsound : (c : tie.After-known-told) →
+    let a = start-of (refused-of c) .args in
+    refusal (c .before .checked .given .0 .0) ≡ checked (a .points .now) (a .lengths .now) (a .layers .now) (gives (sum (a .lengths .now)))
+unfolding checkedAnswer
+unsound c = ap checkedAnswer (sym (c .before .checked .given .1)) ∙ refused-of c .check .ensures
+
+-- a plate that passed them
 sound : (c : tie.After-enum-told) →
-    let a = c .before .before .before .before .before .before .before .before .before .before .args in
+    let a = start-of (check-of c) .args in
     checked (a .points .now) (a .lengths .now) (a .layers .now) (gives (sum (a .lengths .now))) ≡ gives (c .enum-told .given .0 .0)
 unfolding checkedAnswer
-sound c = sym (ap checkedAnswer (sym (c .enum-told .given .1)) ∙ c .before .before .check .ensures)
+sound c = sym (ap checkedAnswer (sym (c .enum-told .given .1)) ∙ check-of c .check .ensures)
 
-accepted : (c : tie.After-enum-told) → let a = c .before .before .before .before .before .before .before .before .before .before .args in Accepted (a .points .now) (a .lengths .now)
+accepted : (c : tie.After-enum-told) → let a = start-of (check-of c) .args in Accepted (a .points .now) (a .lengths .now)
 accepted c = checked-gives _ _ _ _ _ (sound c) .0
 
 -- the room that was worked out is C
-room-is : (c : tie.After-least2) →
-    let a = c .before .before .before .before .before .before .before .before .before .before .before .before .args in
-    c .least2 .result ≡ retraceRoom (length (a .path .now)) (length (a .marks .now))
+room-is : (c : tie.After-least2) → let a = origin-of c .args in c .least2 .result ≡ retraceRoom (length (a .path .now)) (length (a .marks .now))
 unfolding retraceRoom
 room-is c = omega (arith, c .least2 .ensures, c .before .least .ensures)
+
+-- there is work enough
+enough : (c : tie.Else1) →
+    let a = origin-of (room-of c) .args in
+    retraceRoom (length (a .path .now)) (length (a .marks .now)) + 4 * sum (a .lengths .now) + 8 * length (a .lengths .now) + 16384 ≤ length (a .work .now)
+enough c = omega (arith, c .if1 .left, room-is (room-of c), accepted (told-of (room-of c)) .counted)
+
+-- the path was joined, in room for C points
+wrote : (c : tie.After-join-retrace) →
+    let s = origin-of (room-of (test-of (c .before) .before)) in
+    Wrote (s .args .points .now) (retrace (handed s)) (retraceRoom (length (s .args .path .now)) (length (s .args .marks .now))) (c .join-retrace .result)
+    (s .args .path .now) (c .join-retrace .last .1 .1 .1 .1 .1 .1 .1 .0) (s .args .marks .now) (c .join-retrace .last .1 .1 .1 .1 .1 .1 .1 .1 .0)
+wrote c =
+    let room = room-of (test-of (c .before) .before) in
+    let s = origin-of room in
+    subst (λ (m : ℕ). Wrote (s .args .points .now) (retrace (handed s)) m (c .join-retrace .result) (s .args .path .now) (c .join-retrace .last .1 .1 .1 .1 .1 .1 .1 .0) (s .args .marks .now) (c .join-retrace .last .1 .1 .1 .1 .1 .1 .1 .1 .0))
+    (room-is room) (c .join-retrace .ensures)
+
+-- what meets the outcome divides
+met : (s : tie.Start) {a : Answer Counts} {path : List Float} {marks : List ℕ} (work : List ℕ) (distances : List Float) →
+    Met (handed s) (s .args .path .now) (s .args .marks .now) (s .args .work .now) (s .args .distances .now) a path marks work distances →
+    Met (handed s) (s .args .path .now) (s .args .marks .now) (s .args .work .now) (s .args .distances .now) a path marks work distances × Divided (handed s) a path marks
+met s work distances m = (m, divides (handed s) (s .args .path .now) (s .args .marks .now) (length (s .args .work .now)) (length (s .args .distances .now)) _ _ _ (m .0) (m .1) (m .2))
+
+-- ---- needs
 
 check-requires : tie.Need-check-requires
 check-requires c κs = search needs
@@ -40,13 +105,10 @@ enum-known-checked : tie.Need-enum-known-checked
 enum-known-checked c = search needs
 
 returns : tie.Need-returns
-unfolding retraceAnswer plate checkedAnswer
+unfolding retraceAnswer plate
 returns c =
-    let s = c .before .before .before .before .before .before .before .before .before .before .before in
-    let e = ap checkedAnswer (sym (c .before .checked .given .1)) ∙ c .before .before .before .check .ensures in
-    let m =
-    met-refused (handed s) (s .args .path .now) (s .args .marks .now) (s .args .work .now) (s .args .distances .now) _ _ e in
-    (m, divides (handed s) (s .args .path .now) (s .args .marks .now) (length (s .args .work .now)) (length (s .args .distances .now)) _ _ _ (m .0) (m .1) (m .2))
+    let s = start-of (refused-of c) in
+    met s _ _ (met-refused (handed s) (s .args .path .now) (s .args .marks .now) (s .args .work .now) (s .args .distances .now) _ _ (unsound c))
 
 enum-told : tie.Need-enum-told
 enum-told c = search needs
@@ -67,48 +129,49 @@ mul-if1-2 : tie.Need-mul-if1-2
 mul-if1-2 c = search needs
 
 add-if1-2 : tie.Need-add-if1-2
-add-if1-2 c = let a = accepted (c .before .before) in omega (arith, c .least2 .ensures, a .contours, a .points, a .counted)
+add-if1-2 c = let a = accepted (told-of c) in omega (arith, c .least2 .ensures, a .contours, a .points, a .counted)
 
 add-if1-3 : tie.Need-add-if1-3
-add-if1-3 c = let a = accepted (c .before .before) in omega (arith, c .least2 .ensures, a .contours, a .points, a .counted)
+add-if1-3 c = let a = accepted (told-of c) in omega (arith, c .least2 .ensures, a .contours, a .points, a .counted)
 
 returns-2 : tie.Need-returns-2
 unfolding retraceAnswer refusal plate
 returns-2 c =
-    let s = c .before .before .before .before .before .before .before .before .before .before .before .before .before in
-    let a = accepted (c .before .before .before) in
-    let m =
-    met-short (handed s) (s .args .path .now) (s .args .marks .now) (s .args .work .now) (s .args .distances .now) _ _ (sound (c .before .before .before)) (omega (arith, c .if1 .taken, room-is (c .before), a .counted)) in
-    (m, divides (handed s) (s .args .path .now) (s .args .marks .now) (length (s .args .work .now)) (length (s .args .distances .now)) _ _ _ (m .0) (m .1) (m .2))
+    let room = c .before in
+    let told = told-of room in
+    let s = origin-of room in
+    met s _ _
+    (met-short (handed s) (s .args .path .now) (s .args .marks .now) (s .args .work .now) (s .args .distances .now) _ _ (sound told)
+    (omega (arith, c .if1 .taken, room-is room, accepted told .counted)))
 
 returns-3 : tie.Need-returns-3
 unfolding retraceAnswer refusal plate
 returns-3 c =
-    let s = c .before .before .before .before .before .before .before .before .before .before .before .before .before .before in
-    let a = accepted (c .before .before .before .before) in
-    let m =
-    met-short-distances (handed s) (s .args .path .now) (s .args .marks .now) (s .args .work .now) (s .args .distances .now) _ _ (sound (c .before .before .before .before))
-    (omega (arith, c .before .if1 .left, room-is (c .before .before), a .counted)) (c .if2 .taken) in
-    (m, divides (handed s) (s .args .path .now) (s .args .marks .now) (length (s .args .work .now)) (length (s .args .distances .now)) _ _ _ (m .0) (m .1) (m .2))
+    let room = room-of (c .before) in
+    let s = origin-of room in
+    met s _ _
+    (met-short-distances (handed s) (s .args .path .now) (s .args .marks .now) (s .args .work .now) (s .args .distances .now) _ _ (sound (told-of room)) (enough (c .before)) (c .if2 .taken))
 
 cast-c : tie.Need-cast-c
 cast-c c = search needs
 
 join-retrace-requires : tie.Need-join-retrace-requires
 join-retrace-requires c κs =
-    let s = c .before .before .before .before .before .before .before .before .before .before .before .before .before .before .before .before .before .before in
-    let a = accepted (c .before .before .before .before .before .before .before .before) in
-    let e = c .before .before .before .before .before .before .least2 .ensures in
-    let f = c .before .before .before .before .before .before .before .least .ensures in (
+    let test = test-of c in
+    let room = room-of (test .before) in
+    let told = told-of room in
+    let a = accepted told in
+    let e = room .least2 .ensures in
+    let f = room .before .least .ensures in (
       a,
       record {
         small = omega (arith, e);
         path-room = omega (arith, e, f);
         marks-room = omega (arith, e, f);
-        work-room = omega (arith, c .before .before .before .before .before .if1 .left, a .counted);
-        distances-room = omega (arith, c .before .before .before .before .if2 .left);
+        work-room = omega (arith, test .before .if1 .left, a .counted);
+        distances-room = omega (arith, test .if2 .left);
       },
-      checked-gives _ _ _ _ _ (sound (c .before .before .before .before .before .before .before .before)) .1 .counted,
+      checked-gives _ _ _ _ _ (sound told) .1 .counted,
     )
 
 same-length : tie.Need-same-length
@@ -126,21 +189,21 @@ same-length-4 c = search needs
 returns-4 : tie.Need-returns-4
 unfolding retraceAnswer refusal plate
 returns-4 c =
-    let s = c .before .before .before .before .before .before .before .before .before .before .before .before .before .before .before .before .before .before .before .before .before .before .before .before .before .before .before .before in
-    let a = accepted (c .before .before .before .before .before .before .before .before .before .before .before .before .before .before .before .before .before .before) in
-    let r = room-is (c .before .before .before .before .before .before .before .before .before .before .before .before .before .before .before .before) in
-    let m =
-    met-full (handed s) (s .args .path .now) (s .args .marks .now) (s .args .work .now) (s .args .distances .now) _ _ (sound (c .before .before .before .before .before .before .before .before .before .before .before .before .before .before .before .before .before .before))
-    (omega (arith, c .before .before .before .before .before .before .before .before .before .before .before .before .before .before .before .if1 .left, r, a .counted)) (omega (arith, c .before .before .before .before .before .before .before .before .before .before .before .before .before .before .if2 .left)) _ _ _ _ _
-    (rw r at (c .before .before .before .before .before .before .before .before .before .join-retrace .ensures)) (omega (arith, c .if3 .taken, r)) in
-    rw r (m, divides (handed s) (s .args .path .now) (s .args .marks .now) (length (s .args .work .now)) (length (s .args .distances .now)) _ _ _ (m .0) (m .1) (m .2))
+    let joined = join-of (c .before) in
+    let test = test-of (joined .before) in
+    let room = room-of (test .before) in
+    let s = origin-of room in
+    let r = room-is room in
+    rw r
+    (met s _ _
+    (met-full (handed s) (s .args .path .now) (s .args .marks .now) (s .args .work .now) (s .args .distances .now) _ _ (sound (told-of room)) (enough (test .before)) (omega (arith, test .if2 .left)) _ _ _ _ _
+    (wrote joined) (omega (arith, c .if3 .taken, r))))
 
 count-marks-requires : tie.Need-count-marks-requires
 count-marks-requires c κs =
-    let s = c .before .before .before .before .before .before .before .before .before .before .before .before .before .before .before .before .before .before .before .before .before .before .before .before .before .before .before .before .before in
-    let e = c .before .before .before .before .before .before .before .before .before .before .before .before .before .before .before .before .before .least2 .ensures in
-    let f = c .before .before .before .before .before .before .before .before .before .before .before .before .before .before .before .before .before .before .least .ensures in
-    omega (arith, c .before .if3 .left, e, f, c .before .before .before .before .before .before .before .before .before .before .join-retrace .kept .1 .1 .1 .1 .1 .1 .1 .1 .0)
+    let joined = join-of (c .before .before) in
+    let room = room-of (test-of (joined .before) .before) in
+    omega (arith, c .before .if3 .left, room .least2 .ensures, room .before .least .ensures, joined .join-retrace .kept .1 .1 .1 .1 .1 .1 .1 .1 .0)
 
 same-length-5 : tie.Need-same-length-5
 same-length-5 c = search needs
@@ -157,18 +220,18 @@ same-length-8 c = search needs
 returns-5 : tie.Need-returns-5
 unfolding retraceAnswer plate
 returns-5 c =
-    let s = c .before .before .before .before .before .before .before .before .before .before .before .before .before .before .before .before .before .before .before .before .before .before .before .before .before .before .before .before .before .before in
-    let a = accepted (c .before .before .before .before .before .before .before .before .before .before .before .before .before .before .before .before .before .before .before .before) in
-    let r = room-is (c .before .before .before .before .before .before .before .before .before .before .before .before .before .before .before .before .before .before) in
-    let n = c .before .before .if3 .left in
-    let w = c .before .before .before .before .before .before .before .before .before .before .before .join-retrace .ensures in
+    let fits = c .before .before in
+    let joined = join-of (fits .before) in
+    let test = test-of (joined .before) in
+    let room = room-of (test .before) in
+    let s = origin-of room in
+    let r = room-is room in
+    let n = fits .if3 .left in
     let k = c .count-marks .ensures in
-    let m =
-    met-whole (handed s) (s .args .path .now) (s .args .marks .now) (s .args .work .now) (s .args .distances .now) _ _ (sound (c .before .before .before .before .before .before .before .before .before .before .before .before .before .before .before .before .before .before .before .before))
-    (omega (arith, c .before .before .before .before .before .before .before .before .before .before .before .before .before .before .before .before .before .if1 .left, r, a .counted)) (omega (arith, c .before .before .before .before .before .before .before .before .before .before .before .before .before .before .before .before .if2 .left)) _ _ _ _ _
-    (rw r at w) (omega (arith, n, r)) (c .count-marks .result)
-    (counted (s .args .points .now) (retrace (handed s)) _ _ _ _ _ _ w (omega (arith, n)) (c .count-marks .result) (k .0) (k .1) (k .2) (k .3)) in
-    (m, divides (handed s) (s .args .path .now) (s .args .marks .now) (length (s .args .work .now)) (length (s .args .distances .now)) _ _ _ (m .0) (m .1) (m .2))
+    met s _ _
+    (met-whole (handed s) (s .args .path .now) (s .args .marks .now) (s .args .work .now) (s .args .distances .now) _ _ (sound (told-of room)) (enough (test .before)) (omega (arith, test .if2 .left)) _ _ _ _ _
+    (wrote joined) (omega (arith, n, r)) (c .count-marks .result)
+    (counted (s .args .points .now) (retrace (handed s)) _ _ _ _ _ _ (wrote joined) (omega (arith, n, r)) (c .count-marks .result) (k .0) (k .1) (k .2) (k .3)))
 
 pub retrace-call-spec : {M : Type 1} → statement M
 retrace-call-spec =

@@ -4,7 +4,7 @@
 int main(void) {
     const double points[] = {4, 0, 0, 1, 4, 1, 8, 1}; /* (4,0) | (0,1)(4,1)(8,1) */
     const uint32_t lengths[] = {1, 3}, layers[] = {0, 0};
-    const char *const kinds[] = {"start", "cut", "back-step", "jump"};
+    const char *const kinds[] = {"start", "cut", "back-step", "jump", "touch"};
     static double path[2 * 16], distances[2]; /* room for 16 path points */
     static uint32_t marks[2 * 16], work[16 + 4 * 4 + 8 * 2 + 16384];
     struct twillharbor_retrace_result joined = twillharbor_retrace(points, 8, lengths, 2, layers, 2,

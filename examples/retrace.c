@@ -1,18 +1,19 @@
-/* Joins document 01's plate E to a path that goes back over its own grooves: prints each
- * path point with its mark, and how many cuts, back-steps and jumps there are. */
+/* Joins a line, a line that begins where the first does, and a point to a path that goes back
+ * over its own grooves: prints each path point with its mark, and how many cuts, back-steps,
+ * jumps and touches there are. */
 #include <inttypes.h>
 #include <stdio.h>
 
 #include "twillharbor.h"
 
 /* The plate's points and contours, and path points that there is room for. */
-enum { POINTS = 4, CONTOURS = 2, ROOM = 8 };
+enum { POINTS = 6, CONTOURS = 3, ROOM = 8 };
 
 int main(void) {
-    /* (0,0)(4,0)(8,0) | (0,1), 0 by 0, Inside. */
-    const double points[2 * POINTS] = {0, 0, 4, 0, 8, 0, 0, 1};
-    const uint32_t lengths[CONTOURS] = {3, 1};
-    const uint32_t layers[CONTOURS] = {0, 0};
+    /* (0,0)(4,0)(8,0) | (-0,0)(0,4) | (0,5), 0 by 0, Inside. */
+    const double points[2 * POINTS] = {0, 0, 4, 0, 8, 0, -0.0, 0, 0, 4, 0, 5};
+    const uint32_t lengths[CONTOURS] = {3, 2, 1};
+    const uint32_t layers[CONTOURS] = {0, 0, 0};
     double path[2 * ROOM], distances[CONTOURS];
     uint32_t marks[2 * ROOM], i;
     static uint32_t work[ROOM + 4 * POINTS + 8 * CONTOURS + 16384];
@@ -39,10 +40,13 @@ int main(void) {
         case TWILLHARBOR_JUMP:
             printf("jump to vertex");
             break;
+        case TWILLHARBOR_TOUCH:
+            printf("touch of vertex");
+            break;
         }
         printf(" %" PRIu32 "\n", marks[2 * i + 1]);
     }
-    printf("cuts %" PRIu32 ", back-steps %" PRIu32 ", jumps %" PRIu32 "\n", joined.cuts,
-           joined.back_steps, joined.jumps);
+    printf("cuts %" PRIu32 ", back-steps %" PRIu32 ", jumps %" PRIu32 ", touches %" PRIu32 "\n",
+           joined.cuts, joined.back_steps, joined.jumps, joined.touches);
     return 0;
 }

@@ -178,11 +178,12 @@ enum twillharbor_mark {
     TWILLHARBOR_START = 0,
     TWILLHARBOR_CUT = 1,
     TWILLHARBOR_BACK_STEP = 2,
-    TWILLHARBOR_JUMP = 3
+    TWILLHARBOR_JUMP = 3,
+    TWILLHARBOR_TOUCH = 4
 };
 
 struct twillharbor_retrace_result {
-    uint32_t number, place, points, cuts, back_steps, jumps;
+    uint32_t number, place, points, cuts, back_steps, jumps, touches;
 };
 
 /*
@@ -190,10 +191,10 @@ struct twillharbor_retrace_result {
  * where the next contour is near. It begins with the start call's contour, in its sense. As
  * long as contours wait, of those of the lowest layer that waits the one whose cached distance
  * is least comes next, the lowest on ties: the path walks back to the place that the search of
- * the grid finds for the contour's cached entry, jumps to that entry and draws the contour from
- * there. From the first point it goes forward, from the last backward; from another it goes up
- * to the last, back, and then down to the first. Grid, search, samples and caches are document
- * 01's.
+ * the grid finds for the contour's cached entry, goes over to that entry and draws the contour
+ * from there. From the first point it goes forward, from the last backward; from another it goes
+ * up to the last, back, and then down to the first. Grid, search, samples and caches are
+ * document 01's.
  *
  * path    holds afterwards each path point's horizontal, then its vertical coordinate, bit
  *         for bit those of a point
@@ -205,16 +206,23 @@ struct twillharbor_retrace_result {
  *                        contour: the lower vertex number of the segment
  *           2 back-step  k: from path point k + 1's coordinates to path point k's, both of
  *                        them earlier path points
- *           3 jump       the vertex number landed on, of a contour not entered before
+ *           3 jump       the vertex number landed on, of a contour not entered before; the
+ *                        path point before differs from this one
+ *           4 touch      the same, but that the two path points are equal
  *         C is the least of half the path slice's length, half the marks slice's length,
  *         both rounded down, and 1,048,576
  * work    at least C + 4P + 8M + 16,384 numbers
  * distances   at least M numbers
  *
  * `points` is the number of path points; beyond them path and marks slices are unaltered.
- * `cuts`, `back_steps` and `jumps` are the numbers of marks of these kinds. Each segment of
- * each contour is cut once, and each contour that holds a point, but the first, is jumped to
- * once; a jump of length zero counts as a jump. Where no contour holds a point all four are 0.
+ * `cuts`, `back_steps`, `jumps` and `touches` are the numbers of marks of these kinds. Each
+ * segment of each contour is cut once, and each contour that holds a point, but the first, is
+ * jumped to or touched once: jumps and touches together are one less than the contours that
+ * hold a point. Where none does all five are 0.
+ *
+ * A touch is a jump between numerically equal points, so it scratches nothing. Equal means both
+ * coordinates: 0 and -0 are equal, and (0,0) and (1e-200,0) are not, though their squared
+ * distance is 0. Equal points that a cut or a back-step joins are a cut or a back-step.
  *
  * Refusals 1 to 3, 13, 4 and 5; the place of 5 is 0 where the work slice is short, and 1 where
  * the distances slice alone is. Then 6 where there are more than C path points, of which there

@@ -1,4 +1,5 @@
-//! The reference gives what document 01 says of its marked plates B to I.
+//! The reference gives what document 01 says of its marked plates B to I, and its path where
+//! contours touch.
 
 use mujou_reference::join::{capped, door};
 use mujou_reference::optimize::optimize_path_order;
@@ -63,14 +64,27 @@ fn d_to_g_retrace() {
     );
 }
 
-/// The path has the point twice, once in each contour.
+/// Where contours touch, the path has the point once in each, with the bits of each.
 #[test]
-fn a_jump_of_length_zero() {
-    let plate = plate(&[&[(0.0, 0.0), (4.0, 0.0)], &[(4.0, 0.0)]]);
-    assert_eq!(
-        door::join_retrace(&plate, Inside, size(0, 0)),
-        polyline(&[(0.0, 0.0), (4.0, 0.0), (4.0, 0.0)])
-    );
+fn contours_that_touch() {
+    let joined = |contours: &[&[(f64, f64)]]| {
+        let path = door::join_retrace(&plate(contours), Inside, size(0, 0));
+        bits(path.points().iter().map(|p| (p.x, p.y)))
+    };
+    let [a, b, c] = [(0.0, 0.0), (4.0, 0.0), (8.0, 0.0)];
+    assert_eq!(joined(&[&[a, b], &[b]]), bits([a, b, b]));
+    assert_eq!(joined(&[&[a, b, c], &[b]]), bits([a, b, c, b, b]));
+    let zeros = [(0.0, 0.0), (-0.0, 0.0), (0.0, -0.0)];
+    let [first, second, third] = zeros;
+    assert_eq!(joined(&[&[first], &[second], &[third]]), bits(zeros));
+    // No way back to (0,0): the later point is at squared distance 0 too.
+    let near = (1e-200, 0.0);
+    assert_eq!(joined(&[&[a, near], &[a]]), bits([a, near, a]));
+}
+
+fn bits(points: impl IntoIterator<Item = (f64, f64)>) -> Vec<[u64; 2]> {
+    let points = points.into_iter();
+    points.map(|(x, y)| [x, y].map(f64::to_bits)).collect()
 }
 
 #[test]

@@ -9,7 +9,7 @@ use lib.ListN.{length}
 use lib.Ieee.{Float, nan, inf, fin, lt, le}
 use lib.Ieee.Scale.{finite}
 use Rattle.rules.specs.Tools.{pick, lesser, greater, sum}
-use Rattle.rules.specs.GridAndNearest.{widen, boxFrom, box}
+use Rattle.rules.specs.Box.{widen, boxFrom, box}
 use Rattle.rules.specs.declared.BoundingBox.{BoundingBox}
 use Rattle.path.specs.Lists.{All}
 use Rattle.path.specs.FiniteDistances.{OnPlate}

@@ -13,9 +13,10 @@ use borrow.Author.Tests.{eqb-true}
 use Rattle.rules.specs.Tools.{pick, upFrom, downTo}
 use Rattle.rules.specs.HandedOver.{Contour}
 use Rattle.rules.specs.Start.{Oriented}
-use Rattle.rules.specs.RetraceAndMarks.{startKind, jumpKind, Step, land, cutUp, cutDown, backStep, vertexOf, walkTo, walkBack, forward, backward, returnTo, bothWays, emit, begin}
+use Rattle.rules.specs.RetraceAndMarks.{startKind, Step, land, cutUp, cutDown, backStep, vertexOf, walkTo, walkBack, forward, backward, returnTo, bothWays, emit, entryOf, begin}
 use Rattle.path.specs.Pairs.{length-snoc}
 use Rattle.path.specs.Runs.{ends-snoc, ups-at, ups-length}
+use Rattle.path.specs.Emission.{entry-in}
 
 -- landed at vertex a, and n cuts upward
 unfoldable pub landedUp : ℕ → ℕ → ℕ → List Step
@@ -87,36 +88,16 @@ module _ (kind : ℕ) (path : List Step) (c : Contour) (e : ℕ) (h : e ≤ c .l
       let n : c .last - e ≡ 0 = omega arith in
       (rw (← l)) ∙ (rw n at drawn-both)
 
--- of one vertex both senses are drawn alike
-one-vertex : (kind a last : ℕ) → last ≡ 0 → land kind (a + last) ∷ map cutDown (downTo a last) ≡ land kind a ∷ map cutUp (upFrom a last)
-one-vertex kind a last l = let z : a + 0 ≡ a = omega arith in rw (l, z)
-
-drawn-one : (kind : ℕ) (c : Contour) → c .last ≡ 0 → backward kind c ≡ drawn kind [] c (c .last)
-unfolding backward forward
-drawn-one kind c l = one-vertex kind (c .first) (c .last) l ∙ drawn-forward kind [] c ∙ ap (drawn kind [] c) (sym l)
-
-pub emit-is : (path : List Step) (c : Contour) (e : ℕ) → e ≤ c .last → path ++ emit c e (length path) ≡ drawn jumpKind path c e
+pub emit-is : (kind : ℕ) (path : List Step) (c : Contour) (e : ℕ) → e ≤ c .last → path ++ emit kind c e (length path) ≡ drawn kind path c e
 unfolding emit pick bothWays landedUp
-emit-is path c e h = go (eqb e 0) refl (eqb e (c .last)) refl
+emit-is kind path c e h = go (eqb e 0) refl (eqb e (c .last)) refl
   where
     go : (s : Bool) → eqb e 0 ≡ s → (t : Bool) → eqb e (c .last) ≡ t →
-        path ++ pick s (forward jumpKind c) (pick t (backward jumpKind c) (bothWays c e (length path))) ≡ drawn jumpKind path c e
-    go true x t y = drawn-forward jumpKind path c ∙ ap (drawn jumpKind path c) (sym (eqb-true e 0 x))
-    go false x true y = drawn-last jumpKind path c e h x (eqb-true e (c .last) y)
-    go false x false y = drawn-both jumpKind path c e h x
-
--- the vertex at which a contour in a sense begins
-unfoldable pub entryOf : Oriented → ℕ
-entryOf s = pick (s .reversed) (s .contour .last) 0
+        path ++ pick s (forward kind c) (pick t (backward kind c) (bothWays kind c e (length path))) ≡ drawn kind path c e
+    go true x t y = drawn-forward kind path c ∙ ap (drawn kind path c) (sym (eqb-true e 0 x))
+    go false x true y = drawn-last kind path c e h x (eqb-true e (c .last) y)
+    go false x false y = drawn-both kind path c e h x
 
 pub begin-is : (s : Oriented) → begin s ≡ drawn startKind [] (s .contour) (entryOf s)
-unfolding begin entryOf pick
-begin-is s = go (s .reversed)
-  where
-    from-last : (t : Bool) → eqb (s .contour .last) 0 ≡ t → backward startKind (s .contour) ≡ drawn startKind [] (s .contour) (s .contour .last)
-    from-last true x = drawn-one startKind (s .contour) (eqb-true (s .contour .last) 0 x)
-    from-last false x = drawn-last startKind [] (s .contour) (s .contour .last) (omega arith) x refl
-
-    go : (b : Bool) → pick b (backward startKind (s .contour)) (forward startKind (s .contour)) ≡ drawn startKind [] (s .contour) (pick b (s .contour .last) 0)
-    go true = from-last (eqb (s .contour .last) 0) refl
-    go false = drawn-forward startKind [] (s .contour)
+unfolding begin
+begin-is s = emit-is startKind [] (s .contour) (entryOf s) (entry-in s)

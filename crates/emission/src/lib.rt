@@ -13,6 +13,7 @@ ghost use Rattle.emission.specs.Drawn.{drawn};
 use path_points::Mark;
 use path_points::put;
 use path_points::walk_back;
+use rules::CUT;
 use rules::PathPlace;
 use rules::SpatialGrid;
 use rules::Vertex;
@@ -47,7 +48,7 @@ fn cut_up(
         let low = first + i;
         let p = point_at(points, Vertex(low + 1));
         let mark = Mark {
-            kind: 1,
+            kind: CUT,
             reference: low,
         };
         k = put(g, room, &mut *path, &mut *marks, &mut *work, k, p, mark);
@@ -83,7 +84,7 @@ fn cut_down(
         let low = v.0 + left;
         let p = point_at(points, Vertex(low));
         let mark = Mark {
-            kind: 1,
+            kind: CUT,
             reference: low,
         };
         k = put(g, room, &mut *path, &mut *marks, &mut *work, k, p, mark);

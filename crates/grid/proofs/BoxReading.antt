@@ -7,7 +7,7 @@ use native.Mathlib.Omega.{arith}
 use lib.ListN.{length, drop, getD, length-drop}
 use lib.Seq.{drop-cons}
 use lib.Ieee.{Float, nan}
-use Rattle.rules.specs.GridAndNearest.{widen, boxFrom}
+use Rattle.rules.specs.Box.{widen, boxFrom}
 use Rattle.rules.specs.declared.BoundingBox.{BoundingBox}
 
 pub box-step : (b : BoundingBox) (xs : List Float) (i : ℕ) → i + 1 < length xs →

@@ -9,7 +9,8 @@ use lib.Ieee.{Float, binary64, fits}
 use lib.Ieee.Fits.{inf-fits}
 use lib.Ieee.Positive.{first-pos}
 use Rattle.rules.specs.Tools.{sum}
-use Rattle.rules.specs.GridAndNearest.{box, gridOf}
+use Rattle.rules.specs.Box.{box}
+use Rattle.rules.specs.GridAndNearest.{gridOf}
 use Rattle.rules.specs.declared.BoundingBox.{BoundingBox}
 use Rattle.path.specs.Lists.{All}
 use Rattle.path.specs.Accepted.{Accepted}

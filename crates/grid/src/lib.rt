@@ -1,7 +1,8 @@
 // The box of a plate's points, the grid over it, the cell of a point, and a cell's number.
 ghost use mathlib.Core.Path.{_≡_};
 ghost use Prim.Native.Nat.{_*_, _≤_, _<_};
-ghost use Rattle.rules.specs.GridAndNearest.{widen, box, cellSize, cellsAlong, gridOf, indexAlong, cellOf};
+ghost use Rattle.rules.specs.Box.{widen, box};
+ghost use Rattle.rules.specs.GridAndNearest.{cellSize, cellsAlong, gridOf, indexAlong, cellOf};
 ghost use Rattle.rules.specs.SamplesAndCache.{cellNumber};
 ghost use Rattle.bounds.specs.Boxes.{Sound};
 ghost use Rattle.grid.specs.Sane.{Sane};

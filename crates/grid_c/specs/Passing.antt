@@ -10,7 +10,7 @@ use lib.ListN.{length}
 use borrow.Author.Tests.{ltb-true, leb-true}
 use Rattle.rules.specs.Tools.{sum}
 use Rattle.rules.specs.HandedOver.{Answer, gives, refuses, refusal, checkedContours}
-use Rattle.rules.specs.GridAndNearest.{box}
+use Rattle.rules.specs.Box.{box}
 use Rattle.rules.specs.declared.Refusal.{Refusal}
 use Rattle.path.specs.Accepted.{Accepted, contours-gives}
 use Rattle.plate.specs.Refused.{not-given}

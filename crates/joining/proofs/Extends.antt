@@ -3,12 +3,11 @@ use mathlib.Core.Path.{_≡_, refl, sym, ap, _∙_}
 use mathlib.Core.List.{List, [], _++_, map, append-nil, append-assoc}
 use mathlib.Core.Option.{Option, none, some}
 use Prim.Native.Nat.{ℕ, zero, suc}
-use lib.ListN.{length}
 use Rattle.rules.specs.Tools.{without}
 use Rattle.rules.specs.HandedOver.{Plate, vertexAt}
 use Rattle.rules.specs.GridAndNearest.{nearest}
 use Rattle.rules.specs.SamplesAndCache.{Waiting, update, cellsAround}
-use Rattle.rules.specs.RetraceAndMarks.{Step, pathPoints, placeIn, walkBack, emit, choose, numberOf, entered, joinAll}
+use Rattle.rules.specs.RetraceAndMarks.{Step, pathPoints, placeIn, walkBack, choose, numberOf, entered, joinAll}
 use Rattle.rules.specs.declared.SpatialGrid.{SpatialGrid}
 
 -- more is the path with something behind it
@@ -22,7 +21,7 @@ pub entered-begins : (p : Plate) (g : SpatialGrid) (path : List Step) (w : Waiti
 unfolding entered
 entered-begins p g path w =
     let h = placeIn (nearest g (pathPoints p path) (vertexAt p (w .contour) (w .kept .entry))) in
-    (walkBack path h ++ emit (w .contour) (w .kept .entry) (length (path ++ walkBack path h)), append-assoc path (walkBack path h) _)
+    (walkBack path h ++ _, append-assoc path (walkBack path h) _)
 
 -- the contours that wait after w has entered
 abbrev pub waitingAfter : Plate → SpatialGrid → List Waiting → List Step → Waiting → List Waiting

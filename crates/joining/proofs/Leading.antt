@@ -4,7 +4,7 @@ use mathlib.Core.List.{[]}
 use mathlib.Core.Option.{none, some}
 use Rattle.rules.specs.HandedOver.{Plate, contours}
 use Rattle.rules.specs.Start.{Oriented, start}
-use Rattle.rules.specs.GridAndNearest.{box, gridOf}
+use Rattle.rules.specs.GridAndNearest.{gridOf}
 use Rattle.rules.specs.RetraceAndMarks.{retraceFrom, retraceOf, retrace}
 use Rattle.rules.specs.PathStatement.{IsContour}
 use Rattle.path.specs.Accepted.{Accepted}
@@ -14,10 +14,9 @@ use Rattle.packed_contours.specs.Packed.{Placed}
 use Rattle.packed_contours.specs.Contours.{all-placed}
 
 pub lead-placed : (p : Plate) (s : Oriented) → Accepted (p .points) (p .lengths) → start p ≡ some s → Placed (p .lengths) (s .contour)
-unfolding IsContour
 lead-placed p s a e = all-among (Placed (p .lengths)) (contours p) (all-placed p a) (s .contour) (start-is p s e)
 
-pub retrace-some : (p : Plate) (s : Oriented) → start p ≡ some s → retrace p ≡ retraceFrom p (gridOf (box (p .points))) s (contours p)
+pub retrace-some : (p : Plate) (s : Oriented) → start p ≡ some s → retrace p ≡ retraceFrom p (gridOf (p .box)) s (contours p)
 unfolding retrace retraceOf
 retrace-some p s e = rw (e, retraceOf)
 

@@ -4,13 +4,14 @@ use mathlib.Core.Bool.{Bool, true, false}
 use mathlib.Core.List.{List, [], map}
 use Prim.Native.Nat.{ℕ, _+_, _-_, _≤_, _<_}
 use native.Mathlib.Omega.{arith}
+use lib.Dec.{eqb}
 use lib.Ieee.{Float}
 use lib.ListN.{length, length-map}
 use Rattle.rules.specs.Tools.{pick, without}
 use Rattle.rules.specs.HandedOver.{Plate, contours}
 use Rattle.rules.specs.Start.{Oriented}
 use Rattle.rules.specs.SamplesAndCache.{Waiting, waiting, seed}
-use Rattle.rules.specs.RetraceAndMarks.{startKind, forward, backward, begin, pathPoints, numberOf, joinAll, retraceFrom}
+use Rattle.rules.specs.RetraceAndMarks.{startKind, forward, backward, bothWays, emit, entryOf, begin, pathPoints, numberOf, joinAll, retraceFrom}
 use Rattle.rules.specs.OrderAndStraight.{contourNumber}
 use Rattle.rules.specs.declared.Point.{Point}
 use Rattle.rules.specs.declared.SpatialGrid.{SpatialGrid}
@@ -31,7 +32,7 @@ use Rattle.caches.specs.Querying.{Querying}
 use Rattle.choosing.specs.Lining.{lined-same, lined-map, lined-few}
 use Rattle.path_points.specs.Wrote.{Wrote, wrote-full}
 use Rattle.path_points.specs.Pen.{Pen}
-use Rattle.emission.specs.Drawn.{drawn, entryOf, begin-is}
+use Rattle.emission.specs.Drawn.{drawn, begin-is}
 use Rattle.joining.specs.Lent.{Lent}
 use Rattle.joining.specs.Lines.{Lines}
 use Rattle.joining.specs.Joining.{Joining}
@@ -57,12 +58,14 @@ retrace-begins p g s = subst (Begins (begin s)) (retrace-is p g s) (join-begins 
 
 -- the start has a point
 begin-some : (s : Oriented) → 1 ≤ length (begin s)
-unfolding begin pick forward backward
-begin-some s = go (s .reversed)
+unfolding begin emit pick forward backward bothWays
+begin-some s = go (eqb (entryOf s) 0) (eqb (entryOf s) (s .contour .last))
   where
-    go : (b : Bool) → 1 ≤ length (pick b (backward startKind (s .contour)) (forward startKind (s .contour)))
-    go true = omega arith
-    go false = omega arith
+    go : (a b : Bool) →
+        1 ≤ length (pick a (forward startKind (s .contour)) (pick b (backward startKind (s .contour)) (bothWays startKind (s .contour) (entryOf s) 0)))
+    go true b = omega arith
+    go false true = omega arith
+    go false false = omega arith
 
 -- the slices when s was drawn; `work` is the slice before that
 pub record Begun (xs : List Float) (p : Plate) (g : SpatialGrid) (lay : Layout) (room : ℕ) (s : Oriented) (ds : List Float) (work : List ℕ)

@@ -35,11 +35,14 @@ use grid::polyline_bounding_box;
 use history::clear;
 use layout::Layout;
 use layout::laid_out;
+use mark_kinds::landing_kind;
 use nearest::nearest;
+use nearest::path_point;
 use path_points::walk_back;
 use prepare::prepare;
 use rules::Nearest;
 use rules::PathPlace;
+use rules::START;
 use rules::SpatialGrid;
 use rules::StartPointStrategy;
 use rules::Vertex;
@@ -85,6 +88,7 @@ fn enter(
 {
     let q = point_at(points, v);
     let h = place_in(nearest(g, &*path, &*work, count, q));
+    let kind = landing_kind(path_point(&*path, h), q);
     let back = walk_back(g, room, &mut *path, &mut *marks, &mut *work, count, h);
     if room < back {
         return back;
@@ -92,7 +96,7 @@ fn enter(
     let landing = Landing {
         contour: c,
         vertex: v,
-        kind: 3,
+        kind,
     };
     emit(
         points,
@@ -269,7 +273,7 @@ fn join_from(
     let landing = Landing {
         contour: c,
         vertex: first_end(c, s.reversed),
-        kind: 0,
+        kind: START,
     };
     let count = emit(
         points,

@@ -1,6 +1,6 @@
 // Boundary runs of the table of refusals (document 01, with document 02's bad layer): for each case one line with its name, its number and
 // its place, and the entries or points where the call counts them. A line of the retrace call has the lengths of the path, marks, u32 work
-// and f64 work slices, and number, place, points, cuts, back-steps and jumps.
+// and f64 work slices, and number, place, points, cuts, back-steps, jumps and touches.
 ghost use Prim.Native.Nat.{_≤_};
 use twillharbor::RetraceResult;
 use twillharbor::twillharbor_order;
@@ -225,6 +225,7 @@ fn show_retrace(r: RetraceResult) {
     put(r.cuts as u64);
     put(r.back_steps as u64);
     put(r.jumps as u64);
+    put(r.touches as u64);
     io::write_all(1, b"\n");
 }
 

@@ -24,7 +24,7 @@ use rules::Point;
 use rules::SpatialGrid;
 
 // The path point at a place.
-fn point_at(path: &[f64], place: PathPlace) -> Point
+pub fn path_point(path: &[f64], place: PathPlace) -> Point
     requires { ⌜ 2 * place .0 + 1 < length (now path) ⌝ }
     ensures { λ r. ⌜ r ≡ at (now (path .entry)) (place .0) ⌝ }
 {
@@ -80,7 +80,7 @@ pub fn nearest(g: SpatialGrid, path: &[f64], work: &[u32], count: u32, q: Point)
                 let mut cursor = work[cell as usize];
                 while cursor != 0 {
                     let place = PathPlace(cursor - 1);
-                    best = nearer(best, place, q, point_at(path, place));
+                    best = nearer(best, place, q, path_point(path, place));
                     cursor = work[2916 + place.0 as usize];
                 }
                 col += step;

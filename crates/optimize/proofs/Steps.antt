@@ -185,11 +185,9 @@ before-end c cs r m f =
     go {j} (no h) l e = omega arith
 
 pub start-placed : (p : Plate) (s : Oriented) → Accepted (p .points) (p .lengths) → start p ≡ some s → Placed (p .lengths) (s .contour)
-unfolding IsContour
 start-placed p s a e = all-among (Placed (p .lengths)) (contours p) (all-placed p a) (s .contour) (start-is p s e)
 
 pub start-among : (p : Plate) (s : Oriented) → start p ≡ some s → Among (s .contour) (contours p)
-unfolding IsContour
 start-among p s e = start-is p s e
 
 pub first-state : (p : Plate) (words tail : List ℕ) (n k : ℕ) (s : Oriented) (after : List ℕ) → Accepted (p .points) (p .lengths) →

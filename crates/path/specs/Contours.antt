@@ -134,7 +134,6 @@ unfolding contours
 contours-rise p = rising-from 0 0 (p .lengths)
 
 pub all-contours : (p : Plate) → All (IsContour p) (contours p)
-unfolding IsContour
 all-contours p = among-all (IsContour p) (contours p) (λ c m. m)
 
 -- a vertex is of one contour only
@@ -148,12 +147,11 @@ one-of (x ∷ xs) r c d v (inr m) (inl f) a b =
 one-of (x ∷ xs) r c d v (inr m) (inr n) a b = one-of xs (r .1) c d v m n a b
 
 pub contour-one : (p : Plate) (c d : Contour) (v : ℕ) → IsContour p c → IsContour p d → Of c v → Of d v → c ≡ d
-unfolding IsContour
 contour-one p c d v m n a b = one-of (contours p) (contours-rise p) c d v m n a b
 
 -- a contour's vertices are vertices of the plate
 pub contour-in : (p : Plate) (c : Contour) → IsContour p c → c .first + c .last < sum (p .lengths)
-unfolding IsContour contours
+unfolding contours
 contour-in p c m = let h = all-among _ (contours p) (from-on 0 0 (p .lengths)) c m in omega (arith, h)
 
 segments-from : (j v : ℕ) (ns : List ℕ) → sum (map (λ c. c .last) (contoursFrom j v ns)) + length (contoursFrom j v ns) ≡ sum ns

@@ -12,7 +12,7 @@ use borrow.Author.Tests.{eqb-true}
 use Rattle.rules.specs.Tools.{pick, upFrom, downTo}
 use Rattle.rules.specs.HandedOver.{Plate, Contour}
 use Rattle.rules.specs.Start.{Oriented}
-use Rattle.rules.specs.RetraceAndMarks.{startKind, jumpKind, Step, land, cutUp, cutDown, backStep, vertexOf, walkTo, walkBack, forward, backward, returnTo, bothWays, emit, begin}
+use Rattle.rules.specs.RetraceAndMarks.{startKind, Step, land, cutUp, cutDown, backStep, vertexOf, walkTo, walkBack, forward, backward, returnTo, bothWays, emit, entryOf, begin}
 use Rattle.rules.specs.PathStatement.{IsContour, Of, OfContour}
 use Rattle.path.specs.Lists.{All, all-append, all-map, all-upFrom, all-downTo}
 use Rattle.path.specs.Pairs.{length-snoc, Follows, Chain, chain-append, Divided}
@@ -51,7 +51,7 @@ module _ (p : Plate) (c : Contour) (i : IsContour p c) (path : List Step) where
   backward-rest kind = downs-chain p c _ (c .first) (c .last) whole (ends-snoc path (land kind (c .first + c .last)))
 
 -- both ways from an entry e: landed at it, risen to the last vertex, returned to it
-module _ (p : Plate) (c : Contour) (i : IsContour p c) (path : List Step) (e : ℕ) (h : e ≤ c .last) where
+module _ (p : Plate) (c : Contour) (i : IsContour p c) (path : List Step) (kind e : ℕ) (h : e ≤ c .last) where
   a : ℕ
   a = c .first + e
 
@@ -62,7 +62,7 @@ module _ (p : Plate) (c : Contour) (i : IsContour p c) (path : List Step) (e : �
   up = map cutUp (upFrom a n)
 
   landed : List Step
-  landed = path ++ land jumpKind a ∷ []
+  landed = path ++ land kind a ∷ []
 
   risen : List Step
   risen = landed ++ up
@@ -72,11 +72,11 @@ module _ (p : Plate) (c : Contour) (i : IsContour p c) (path : List Step) (e : �
 
   landed-end : Ends landed a
   unfolding land landed
-  landed-end = ends-snoc path (land jumpKind a)
+  landed-end = ends-snoc path (land kind a)
 
   landed-length : length landed ≡ suc (length path)
   unfolding landed
-  landed-length = length-snoc path (land jumpKind a)
+  landed-length = length-snoc path (land kind a)
 
   -- the vertices from e on stand from the landing on
   risen-stand : Stand risen (λ k. a + k) (λ k. length path + k) (0 + n)
@@ -99,32 +99,33 @@ module _ (p : Plate) (c : Contour) (i : IsContour p c) (path : List Step) (e : �
   unfolding returned a
   returned-end = rw add-zero at (backs-end risen (λ k. a + k) (λ k. length path + k) 0 n risen-end)
 
-  both-chain : Follows p path (land jumpKind (c .first + e)) → Chain p path (bothWays c e (length path))
-  unfolding bothWays returnTo a n up landed risen returned
-  both-chain j =
-      chain-append p path ((land jumpKind a ∷ up) ++ returned) (map cutDown (downTo (c .first) e))
-      (chain-append p path (land jumpKind a ∷ up) returned
-      (j, ups-chain p c landed a n (record { of = i; low = omega arith; high = omega arith }) landed-end)
-      (rw (append-snoc path (land jumpKind a) up) at (backs-chain p risen (λ k. a + k) (λ k. length path + k) 0 n risen-stand risen-end)))
-      (rw same (downs-chain p c (risen ++ returned) (c .first) e (record { of = i; low = omega arith; high = omega arith }) returned-end))
-    where
-      same : path ++ ((land jumpKind a ∷ up) ++ returned) ≡ risen ++ returned
-      same =
-          sym (append-assoc path (land jumpKind a ∷ up) returned)
-          ∙ ap (λ (l : List Step). l ++ returned) (sym (append-snoc path (land jumpKind a) up))
+  both-rest : Chain p landed ((up ++ returned) ++ map cutDown (downTo (c .first) e))
+  unfolding a n up landed risen returned
+  both-rest =
+      chain-append p landed (up ++ returned) (map cutDown (downTo (c .first) e))
+      (chain-append p landed up returned
+      (ups-chain p c landed a n (record { of = i; low = omega arith; high = omega arith }) landed-end)
+      (backs-chain p risen (λ k. a + k) (λ k. length path + k) 0 n risen-stand risen-end))
+      (rw (sym (append-assoc landed up returned))
+      (downs-chain p c (risen ++ returned) (c .first) e (record { of = i; low = omega arith; high = omega arith }) returned-end))
 
-  -- where the landing makes a pair, all steps do
-  pub emit-chain : Follows p path (land jumpKind (c .first + e)) → Chain p path (emit c e (length path))
-  unfolding emit pick forward backward
-  emit-chain j = go (eqb e 0) refl (eqb e (c .last)) refl
+  -- the contour's steps are the landing, and others that follow it
+  emit-as : (Q : List Step → Type 0) → ((rest : List Step) → Chain p (path ++ land kind (c .first + e) ∷ []) rest → Q (land kind (c .first + e) ∷ rest)) →
+      Q (emit kind c e (length path))
+  unfolding emit pick forward backward bothWays returnTo a n up landed returned
+  emit-as Q f = go (eqb e 0) refl (eqb e (c .last)) refl
     where
       go : (s : Bool) → eqb e 0 ≡ s → (t : Bool) → eqb e (c .last) ≡ t →
-          Chain p path (pick s (forward jumpKind c) (pick t (backward jumpKind c) (bothWays c e (length path))))
+          Q (pick s (forward kind c) (pick t (backward kind c) (bothWays kind c e (length path))))
       go true x t y =
-          let z : c .first + e ≡ c .first = omega (arith, eqb-true e 0 x) in (rw z at j, forward-rest p c i path jumpKind)
+          let z : c .first + e ≡ c .first = omega (arith, eqb-true e 0 x) in (rw z at f) _ (forward-rest p c i path kind)
       go false x true y =
-          let z : c .first + e ≡ c .first + c .last = omega (arith, eqb-true e (c .last) y) in (rw z at j, backward-rest p c i path jumpKind)
-      go false x false y = both-chain j
+          let z : c .first + e ≡ c .first + c .last = omega (arith, eqb-true e (c .last) y) in (rw z at f) _ (backward-rest p c i path kind)
+      go false x false y = f _ both-rest
+
+  -- where the landing makes a pair, all steps do
+  pub emit-chain : Follows p path (land kind (c .first + e)) → Chain p path (emit kind c e (length path))
+  emit-chain j = emit-as (Chain p path) (λ rest r. (j, r))
 
 -- ---- what all steps of a contour have
 
@@ -156,33 +157,37 @@ module _ (c : Contour) (Q : Step → Type 0) (q : Steps c Q) where
     downs-have cutDown (c .first) (c .last) (λ i x y. q .down i (omega arith, omega arith) (omega arith, omega arith)),
   )
 
-  both-has : (e b : ℕ) → e ≤ c .last → All Q (bothWays c e b)
+  both-has : (kind e b : ℕ) → e ≤ c .last → All Q (bothWays kind c e b)
   unfolding bothWays returnTo
-  both-has e b h =
+  both-has kind e b h =
       let a = c .first + e in
       let n = c .last - e in
-      all-append Q ((land jumpKind a ∷ map cutUp (upFrom a n)) ++ map (returnTo a b) (downTo 0 n)) (map cutDown (downTo (c .first) e))
-      (all-append Q (land jumpKind a ∷ map cutUp (upFrom a n)) (map (returnTo a b) (downTo 0 n))
-      (q .landing jumpKind a (omega arith, omega arith), ups-have cutUp a n (λ i x y. q .up i (omega arith, omega arith) (omega arith, omega arith)))
+      all-append Q ((land kind a ∷ map cutUp (upFrom a n)) ++ map (returnTo a b) (downTo 0 n)) (map cutDown (downTo (c .first) e))
+      (all-append Q (land kind a ∷ map cutUp (upFrom a n)) (map (returnTo a b) (downTo 0 n))
+      (q .landing kind a (omega arith, omega arith), ups-have cutUp a n (λ i x y. q .up i (omega arith, omega arith) (omega arith, omega arith)))
       (downs-have (returnTo a b) 0 n (λ i x y. q .back (a + i) (b + i) (omega arith, omega arith))))
       (downs-have cutDown (c .first) e (λ i x y. q .down i (omega arith, omega arith) (omega arith, omega arith)))
 
-  pub emit-has : (e b : ℕ) → e ≤ c .last → All Q (emit c e b)
+  pub emit-has : (kind e b : ℕ) → e ≤ c .last → All Q (emit kind c e b)
   unfolding emit pick
-  emit-has e b h = go (eqb e 0) (eqb e (c .last))
+  emit-has kind e b h = go (eqb e 0) (eqb e (c .last))
     where
-      go : (s t : Bool) → All Q (pick s (forward jumpKind c) (pick t (backward jumpKind c) (bothWays c e b)))
-      go true t = forward-has jumpKind
-      go false true = backward-has jumpKind
-      go false false = both-has e b h
+      go : (s t : Bool) → All Q (pick s (forward kind c) (pick t (backward kind c) (bothWays kind c e b)))
+      go true t = forward-has kind
+      go false true = backward-has kind
+      go false false = both-has kind e b h
+
+pub entry-in : (s : Oriented) → entryOf s ≤ s .contour .last
+unfolding entryOf pick
+entry-in s = go (s .reversed)
+  where
+    go : (b : Bool) → pick b (s .contour .last) 0 ≤ s .contour .last
+    go true = omega arith
+    go false = omega arith
 
 pub begin-has : (s : Oriented) (Q : Step → Type 0) → Steps (s .contour) Q → All Q (begin s)
-unfolding begin pick
-begin-has s Q q = go (s .reversed)
-  where
-    go : (b : Bool) → All Q (pick b (backward startKind (s .contour)) (forward startKind (s .contour)))
-    go true = backward-has (s .contour) Q q startKind
-    go false = forward-has (s .contour) Q q startKind
+unfolding begin
+begin-has s Q q = emit-has (s .contour) Q q startKind (entryOf s) 0 (entry-in s)
 
 -- they have its vertices
 abbrev pub StepOf : Contour → Step → Type 0
@@ -192,7 +197,7 @@ steps-of : (c : Contour) → Steps c (StepOf c)
 unfolding land cutUp cutDown backStep
 steps-of c = record { landing = λ kind v o. o; up = λ v o n. n; down = λ v o n. o; back = λ v k o. o }
 
-pub emit-of : (c : Contour) (e b : ℕ) → e ≤ c .last → All (StepOf c) (emit c e b)
+pub emit-of : (c : Contour) (kind e b : ℕ) → e ≤ c .last → All (StepOf c) (emit kind c e b)
 emit-of c = emit-has c (StepOf c) (steps-of c)
 
 pub begin-of : (s : Oriented) → All (StepOf (s .contour)) (begin s)
@@ -201,9 +206,8 @@ begin-of s = begin-has s (StepOf (s .contour)) (steps-of (s .contour))
 -- ---- the start
 
 pub begin-divided : (p : Plate) (s : Oriented) → IsContour p (s .contour) → Divided p (begin s)
-unfolding begin pick forward backward land OfContour
-begin-divided p s i = go (s .reversed)
-  where
-    go : (b : Bool) → Divided p (pick b (backward startKind (s .contour)) (forward startKind (s .contour)))
-    go true = (record { kind = refl; named = refl; of = (s .contour, i, (omega arith, omega arith)) }, backward-rest p (s .contour) i [] startKind)
-    go false = (record { kind = refl; named = refl; of = (s .contour, i, (omega arith, omega arith)) }, forward-rest p (s .contour) i [] startKind)
+unfolding begin land OfContour
+begin-divided p s i =
+    let e = entry-in s in
+    emit-as p (s .contour) i [] startKind (entryOf s) e (Divided p)
+    (λ rest r. (record { kind = refl; named = refl; of = (s .contour, i, (omega arith, omega arith)) }, r))

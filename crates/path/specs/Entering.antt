@@ -1,19 +1,21 @@
--- A contour enters the path by a jump: to a contour of which the path has no vertex, and from a point than which none in the nine cells is nearer.
--- So a plate's whole path, from its start on, is cuts, back-steps and jumps. Assumes nothing.
+-- A contour enters the path by a jump or a touch: to a contour of which the path has no vertex, and from a point than which none in the nine cells is
+-- nearer. So a plate's whole path, from its start on, is cuts, back-steps, jumps and touches. Assumes nothing.
 use mathlib.Core.Path.{_≡_, refl, ap, _∙_}
 use mathlib.Core.List.{List, [], _∷_, _++_}
-use mathlib.Core.Logic.{inr}
+use mathlib.Core.Bool.{Bool, true, false, not}
+use mathlib.Core.Logic.{_⊎_, inl, inr}
 use Prim.Native.Nat.{ℕ, suc, _+_, _-_, _≤_, _<_}
 use native.Mathlib.Omega.{arith}
+use lib.Dec.{T}
 use lib.ListN.{length}
-use Rattle.rules.specs.Tools.{downTo}
+use Rattle.rules.specs.Tools.{pick, downTo}
 use Rattle.rules.specs.HandedOver.{Plate, Contour, at, contours, vertexAt}
 use Rattle.rules.specs.Distances.{distanceSquared}
 use Rattle.rules.specs.GridAndNearest.{nearest}
 use Rattle.rules.specs.SamplesAndCache.{Waiting}
-use Rattle.rules.specs.RetraceAndMarks.{startKind, jumpKind, Step, land, stepAt, vertexOf, backStep, walkTo, walkBack, emit, begin, entered, retrace}
+use Rattle.rules.specs.RetraceAndMarks.{startKind, jumpKind, touchKind, coincide, landingKind, Step, land, stepAt, vertexOf, backStep, walkTo, walkBack, emit, begin, entered, retrace}
 use Rattle.rules.specs.OrderAndStraight.{contourNumber}
-use Rattle.rules.specs.PathStatement.{contourCount, IsContour, Of, NotOf, Jump}
+use Rattle.rules.specs.PathStatement.{contourCount, IsContour, Of, NotOf, itself, JumpOrTouch, Landing, NotEntered, NoneNearer}
 use Rattle.rules.specs.declared.Point.{Point}
 use Rattle.path.specs.Lists.{All, all-give, all-both, all-append, all-map, all-places, all-at, all-downTo, all-without}
 use Rattle.path.specs.FloatOrder.{Plus}
@@ -56,7 +58,16 @@ FreeOf c path = All (λ s. NotOf c (s .vertex)) path
 abbrev Numbered : Plate → List Step → Type 0
 Numbered p path = All (λ s. OfPlate p (s .vertex)) path
 
--- ---- the jump
+-- ---- the jump or touch
+
+-- the kind of a landing says whether its points are equal
+pub kind-tells : (a b : Point) → JumpOrTouch a b (landingKind a b)
+unfolding landingKind pick
+kind-tells a b = go (coincide a b)
+  where
+    go : (t : Bool) → ((pick t touchKind jumpKind ≡ jumpKind) × T (not t)) ⊎ ((pick t touchKind jumpKind ≡ touchKind) × T t)
+    go true = inr (refl, tt)
+    go false = inl (refl, tt)
 
 module _ (p : Plate) (m : Measurable p) (path : List Step) (w : Waiting) (i : IsContour p (w .contour)) (e : w .kept .entry ≤ w .contour .last)
     (d : Divided p path) (free : FreeOf (w .contour) path) (numbered : Numbered p path) where
@@ -73,8 +84,11 @@ module _ (p : Plate) (m : Measurable p) (path : List Step) (w : Waiting) (i : Is
   abbrev back : List Step
   back = path ++ walkBack path h
 
+  abbrev kind : ℕ
+  kind = landingKind (at (p .points) (vertexOf path h)) q
+
   abbrev landed : List Step
-  landed = back ++ land jumpKind r ∷ []
+  landed = back ++ land kind r ∷ []
 
   some : 1 ≤ length path
   some = divided-some p path d
@@ -91,7 +105,7 @@ module _ (p : Plate) (m : Measurable p) (path : List Step) (w : Waiting) (i : Is
   -- each point before the landing is one of the path's, and the last of them is the one that was found
   old-point : (k : ℕ) → k < length back → at (p .points) (vertexOf landed k) ≡ pointOf p back k
   unfolding pointOf
-  old-point k l = ap (at (p .points)) (vertex-old back (land jumpKind r ∷ []) k l)
+  old-point k l = ap (at (p .points)) (vertex-old back (land kind r ∷ []) k l)
 
   copied : (k : ℕ) → k < length back → (j : ℕ) × (j < length path) × (pointOf p back k ≡ pointOf p path j)
   unfolding pointOf vertexOf stepAt
@@ -105,42 +119,58 @@ module _ (p : Plate) (m : Measurable p) (path : List Step) (w : Waiting) (i : Is
   unfolding pointOf
   measured k l = m r (vertexOf path k) (omega (arith, contour-in p (w .contour) i)) (vertex-has (OfPlate p) path numbered k l)
 
-  jumps : Jump p (vertexOf landed) (length back - 1) r
+  last-step : suc (length back - 1) ≡ length back
+  last-step = let s = left .some in omega arith
+
+  -- where it lands
+  lands-on : vertexOf landed (suc (length back - 1)) ≡ r
   unfolding land
-  jumps =
+  lands-on = rw last-step (vertex-new back (land kind r) [])
+
+  -- which it is: the point left is the one that was found
+  tells : JumpOrTouch (at (p .points) (vertexOf landed (length back - 1))) (at (p .points) (vertexOf landed (suc (length back - 1)))) kind
+  unfolding pointOf
+  tells =
       let s = left .some in
-      let n : suc (length back - 1) ≡ length back = omega arith in
+      rw (old-point (length back - 1) (omega arith) ∙ left-point, lands-on) (kind-tells (at (p .points) (vertexOf path h)) q)
+
+  lands : Landing (contours p) itself (vertexOf landed) (NotEntered (vertexOf landed) (length back - 1)) (length back - 1) r
+  lands =
+      let s = left .some in
       record {
-        landing = rw n (vertex-new back (land jumpKind r) []);
+        landing = lands-on;
         fresh = (
           w .contour,
           i,
           (omega arith, omega arith),
           λ k l.
-              rw (vertex-old back (land jumpKind r ∷ []) k (omega arith))
+              rw (vertex-old back (land kind r ∷ []) k (omega arith))
               (vertex-has (NotOf (w .contour)) back (copies-have (NotOf (w .contour)) path back free copies) k (omega arith)),
         );
-        nearest = λ k l t.
-            let c = copied k (omega arith) in
-            let a = old-point k (omega arith) ∙ c .2 in
-            let b = old-point (length back - 1) (omega arith) ∙ left-point in
-            rw (a, b) (found-nearest p path some q measured (c .0) (c .1) (rw a at t));
       }
+
+  none-nearer : NoneNearer (gridFor p) (λ k. at (p .points) (vertexOf landed k)) (length back - 1) kind
+  none-nearer which k l t =
+      let s = left .some in
+      let c = copied k (omega arith) in
+      let a = old-point k (omega arith) ∙ c .2 in
+      let b = old-point (length back - 1) (omega arith) ∙ left-point in
+      rw (a, b, lands-on) (found-nearest p path some q measured (c .0) (c .1) (rw (a, lands-on) at t))
 
   pub entered-divided : Divided p (entered p (gridFor p) path w)
   unfolding entered vertexAt land
   entered-divided =
-      divided-append p back (emit (w .contour) (w .kept .entry) (length back)) (divided-append p path (walkBack path h) d (walk-chain path h h-in p))
-      (emit-chain p (w .contour) i back (w .kept .entry) e (inr (inr (refl, jumps))))
+      divided-append p back (emit kind (w .contour) (w .kept .entry) (length back)) (divided-append p path (walkBack path h) d (walk-chain path h h-in p))
+      (emit-chain p (w .contour) i back kind (w .kept .entry) e (inr (inr (tells, lands)), none-nearer))
 
   -- what holds of the path's vertices and of the contour's holds afterwards
   pub entered-has : (P : ℕ → Type 0) → All (λ s. P (s .vertex)) path → ((v : ℕ) → Of (w .contour) v → P v) →
       All (λ s. P (s .vertex)) (entered p (gridFor p) path w)
   unfolding entered vertexAt
   entered-has P a f =
-      let new = emit (w .contour) (w .kept .entry) (length back) in
+      let new = emit kind (w .contour) (w .kept .entry) (length back) in
       all-append (λ s. P (s .vertex)) back new (copies-have P path back a copies)
-      (all-give (StepOf (w .contour)) (λ s. P (s .vertex)) (λ s o. f (s .vertex) o) new (emit-of (w .contour) (w .kept .entry) (length back) e))
+      (all-give (StepOf (w .contour)) (λ s. P (s .vertex)) (λ s o. f (s .vertex) o) new (emit-of (w .contour) kind (w .kept .entry) (length back) e))
 
 -- ---- the whole path
 
@@ -155,7 +185,6 @@ of-plate p c i v o = omega (arith, contour-in p c i)
 
 module _ (p : Plate) (m : Measurable p) where
   begins : Begins p (Joined p)
-  unfolding IsContour
   begins s i low =
       let c = s .contour in
       let free : (x : Contour) → Apart c x → FreeOf x (begin s) =

@@ -21,6 +21,9 @@ pub mod Shares
 pub mod Totals
 pub mod Slices
 pub mod Theorem
+pub mod Blank
 pub mod NeverFall
 pub mod OneLayer
+pub mod TouchesAsJumps
+pub mod CountsAsJumps
 pub mod Written

@@ -11,7 +11,7 @@ use lib.ListN.{length, getD, length-map, List·getD-map}
 use Rattle.rules.specs.Tools.{pick}
 use Rattle.rules.specs.Distances.{distanceSquared}
 use Rattle.rules.specs.HandedOver.{Plate, at}
-use Rattle.rules.specs.GridAndNearest.{box, cellsAlong, gridOf, indexAlong, cellOf, square, within, PathPoint, seenFrom, found, wins, nearer, nearest}
+use Rattle.rules.specs.GridAndNearest.{cellsAlong, gridOf, indexAlong, cellOf, square, within, PathPoint, seenFrom, found, wins, nearer, nearest}
 use Rattle.rules.specs.RetraceAndMarks.{startKind, Step, land, stepAt, vertexOf, pathPoints, placeIn}
 use Rattle.rules.specs.declared.Point.{Point}
 use Rattle.rules.specs.declared.BoundingBox.{BoundingBox}
@@ -130,7 +130,7 @@ points-at p path k = List·getD-map (λ (s : Step). at (p .points) (s .vertex)) 
 
 -- the plate's grid
 abbrev pub gridFor : Plate → SpatialGrid
-gridFor p = gridOf (box (p .points))
+gridFor p = gridOf (p .box)
 
 -- the place that is found for a point q
 abbrev pub foundFor : Plate → List Step → Point → ℕ
@@ -147,5 +147,5 @@ module _ (p : Plate) (path : List Step) (some : 1 ≤ length path) where
       let measured : (k : ℕ) → k < length (pathPoints p path) → Plus (distanceSquared q (getD (pathPoints p path) k (at (p .points) 0))) =
       λ k x. rw (points-at p path k) (m k (rw (points-length p path) at x)) in
       rw (points-at p path i, points-at p path (foundFor p path q)) at
-      (nearest-nine (gridFor p) (some-cols (box (p .points))) (pathPoints p path) q (at (p .points) 0) measured i (rw (points-length p path) l)
+      (nearest-nine (gridFor p) (some-cols (p .box)) (pathPoints p path) q (at (p .points) 0) measured i (rw (points-length p path) l)
       (rw (points-at p path i) t))

@@ -8,11 +8,11 @@ use native.Mathlib.Omega.{arith}
 use lib.Ieee.{Float}
 use lib.ListN.{length, take}
 use Rattle.rules.specs.Tools.{downTo}
-use Rattle.rules.specs.HandedOver.{Plate, Contour, contours, vertexAt, layerAt, Answer, gives, retraceRoom}
+use Rattle.rules.specs.HandedOver.{Plate, Contour, at, contours, vertexAt, layerAt, Answer, gives, retraceRoom}
 use Rattle.rules.specs.Start.{Oriented}
 use Rattle.rules.specs.GridAndNearest.{nearest}
 use Rattle.rules.specs.SamplesAndCache.{Waiting}
-use Rattle.rules.specs.RetraceAndMarks.{cutKind, backStepKind, Step, land, cutUp, cutDown, backStep, stepAt, walkTo, walkBack, emit, begin, pathPoints, placeIn, entered, retraceOf, retrace, marks}
+use Rattle.rules.specs.RetraceAndMarks.{cutKind, backStepKind, Step, land, cutUp, cutDown, backStep, stepAt, vertexOf, walkTo, walkBack, landingKind, emit, begin, pathPoints, placeIn, entered, retrace, marks}
 use Rattle.rules.specs.OrderAndStraight.{contourNumber}
 use Rattle.rules.specs.Calls.{counts, retraceCall}
 use Rattle.rules.specs.PathStatement.{contourCount, Among, IsContour, Of, kindAt, referenceAt, Draws, NeverFall, LayerStatement}
@@ -21,10 +21,10 @@ use Rattle.path.specs.Lists.{All, all-of, all-give, all-both, all-append
 use Rattle.path.specs.Nearest.{gridFor}
 use Rattle.path.specs.Contours.{all-among, others, contour-one}
 use Rattle.path.specs.Start.{AllTakePart, NoneLower}
+use Rattle.path.specs.Blank.{retrace-empty}
 use Rattle.path.specs.Joining.{Begins, Enters, retrace-keeps}
 use Rattle.path.specs.Emission.{Steps, emit-has, begin-has}
 use Rattle.path.specs.Slices.{marks-length, kind-at, reference-at}
-use Rattle.path.specs.Ordering.{no-start}
 use Rattle.path.specs.Theorem.{retrace-gives, slice-after}
 
 module _ (p : Plate) where
@@ -109,11 +109,13 @@ module _ (p : Plate) where
   unfolding entered
   entered-more path w i e =
       let c = w .contour in
-      let h = placeIn (nearest (gridFor p) (pathPoints p path) (vertexAt p c (w .kept .entry))) in
+      let q = vertexAt p c (w .kept .entry) in
+      let h = placeIn (nearest (gridFor p) (pathPoints p path) q) in
+      let kind = landingKind (at (p .points) (vertexOf path h)) q in
       let b = length (path ++ walkBack path h) in
-      let new = emit c (w .kept .entry) b in (
+      let new = emit kind c (w .kept .entry) b in (
         walkBack path h ++ new,
-        all-append (Only c) (walkBack path h) new (walk-only c path h) (emit-has c (Only c) (steps-only c i) (w .kept .entry) b e),
+        all-append (Only c) (walkBack path h) new (walk-only c path h) (emit-has c (Only c) (steps-only c i) kind (w .kept .entry) b e),
         append-assoc path (walkBack path h) new,
       )
 
@@ -158,11 +160,6 @@ module _ (p : Plate) where
 pub cut-draws : (p : Plate) (ms : List ℕ) (k : ℕ) (c : Contour) → IsContour p c → kindAt ms k ≡ cutKind → c .first ≤ referenceAt ms k →
     referenceAt ms k < c .first + c .last → Draws p ms k c
 cut-draws p ms k c i e l h = record { contour = i; new = λ f. omega arith; of = (l, omega arith) }
-
--- a plate without a contour has the empty path
-retrace-empty : (p : Plate) → contours p ≡ [] → retrace p ≡ []
-unfolding retrace retraceOf
-retrace-empty p e = rw (no-start p e)
 
 retrace-never-falls : (p : Plate) → AllTakePart p → NeverFall p (length (retrace p)) (marks (retrace p))
 unfolding contourCount NeverFall

@@ -1,5 +1,5 @@
--- With one layer for all contours the calls answer, and leave in their slices, what they did before there were layers. The definitions without layers stand
--- here as they stood in crates/rules/specs. Assumes nothing.
+-- With one layer for all contours the calls answer, and leave in their slices, what they do without layers. The definitions without layers are those of
+-- crates/rules/specs with `winner` where those have `foremost`, and without refusal 13. Assumes nothing.
 use mathlib.Core.Path.{_≡_, refl, sym, ap, _∙_}
 use mathlib.Core.List.{List, [], _∷_, map}
 use mathlib.Core.Option.{Option, none, some}
@@ -14,7 +14,7 @@ use Rattle.rules.specs.Tools.{pick, sum, without, winner, highestLayer, foremos
 use Rattle.rules.specs.HandedOver.{Plate, Contour, contours, vertexAt, layerAt, orderRoom, straightRoom, retraceRoom, Answer, plateLimit, firstOff, firstBad}
 use Rattle.rules.specs.HandedOver.{refuseIf, counted, layered, onPlate, checked, orderWork, retraceWork, fitted, after}
 use Rattle.rules.specs.Start.{centre, Oriented, ends, layerOf, beats, start}
-use Rattle.rules.specs.GridAndNearest.{box, gridOf}
+use Rattle.rules.specs.GridAndNearest.{gridOf}
 use Rattle.rules.specs.SamplesAndCache.{Waiting, waiting, seed, update, keep, cellsAround}
 use Rattle.rules.specs.RetraceAndMarks.{Step, begin, pathPoints, closer, waitingLayer, choose, numberOf, entered, joinAll, retraceFrom, retraceOf, retrace, coordinates, marks}
 use Rattle.rules.specs.OrderAndStraight.{lastEnd, nearerSense, nearerEnd, contourNumber, orderAfter, orderFrom, orderOf, order, entries, straight}
@@ -69,7 +69,7 @@ plainRetraceFrom p g s cs =
 
 unfoldable pub plainRetraceOf : Plate → Option Oriented → List Step
 plainRetraceOf p none = []
-plainRetraceOf p (some s) = plainRetraceFrom p (gridOf (box (p .points))) s (contours p)
+plainRetraceOf p (some s) = plainRetraceFrom p (gridOf (p .box)) s (contours p)
 
 unfoldable pub plainRetrace : Plate → List Step
 plainRetrace p = plainRetraceOf p (plainStart p)
@@ -173,7 +173,7 @@ module _ (p : Plate) (l : ℕ) (low : l ≤ highestLayer) where
         go : (o : Option Oriented) → retraceOf p o ≡ plainRetraceOf p o
         go none = refl
         go (some s) =
-            let g = gridOf (box (p .points)) in
+            let g = gridOf (p .box) in
             let ws = without numberOf (s .contour .number) (map (waiting p g) (contours p)) in
             join-plain g (length ws) (map (seed p g (pathPoints p (begin s))) ws) (begin s)
             (all-map (λ w. InLayer (w .contour)) _ ws

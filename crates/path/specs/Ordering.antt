@@ -83,7 +83,7 @@ unfolding start ends
 no-start p e = rw e (foremost-is (layerOf p) _ [])
 
 pub order-total : (f : Contour → ℕ) (p : Plate) → AllTakePart p → sum (map (λ s. f (s .contour)) (order p)) ≡ sum (map f (contours p))
-unfolding order orderOf IsContour contourCount
+unfolding order orderOf contourCount
 order-total f p t = go (contours p) refl
   where
     go : (cs : List Contour) → contours p ≡ cs → total f (order p) ≡ sum (map f (contours p))
@@ -112,7 +112,7 @@ after-has P p (suc n) cs s a =
         rw (after-next p n cs s t e) (foremost-has (layerOf p) nearerEnd (λ u. P (u .contour)) _ (all-nearer P p (lastEnd p s) cs a) t e, rest t)
 
 pub order-has : (P : Contour → Type 0) (p : Plate) → All P (contours p) → All (λ s. P (s .contour)) (order p)
-unfolding order orderOf orderFrom IsContour
+unfolding order orderOf orderFrom
 order-has P p a = go (start p) refl
   where
     go : (o : Option Oriented) → start p ≡ o → All (λ s. P (s .contour)) (order p)

@@ -1,4 +1,4 @@
--- A path that grows by steps, each of which makes a pair with the path's last point: a cut, a back-step or a jump. Assumes nothing.
+-- A path that grows by steps, each of which makes a pair with the path's last point: a cut, a back-step, a jump or a touch. Assumes nothing.
 use mathlib.Core.Path.{_≡_, refl, sym, ap, _∙_, subst}
 use mathlib.Core.Bool.{false}
 use mathlib.Core.List.{List, [], _∷_, _++_, append-nil}
@@ -11,9 +11,9 @@ use lib.Dec.{eqb}
 use lib.ListN.{length, length-append, List·getD-append}
 use lib.Seq.{getD-append-seam, append-snoc}
 use Rattle.rules.specs.Tools.{pick}
-use Rattle.rules.specs.HandedOver.{Plate}
-use Rattle.rules.specs.RetraceAndMarks.{startKind, cutKind, backStepKind, jumpKind, Step, land, stepAt, vertexOf, marks, countMarks, marksOf}
-use Rattle.rules.specs.PathStatement.{OfContour, Pair}
+use Rattle.rules.specs.HandedOver.{Plate, at, contours}
+use Rattle.rules.specs.RetraceAndMarks.{startKind, cutKind, backStepKind, jumpKind, touchKind, Step, land, stepAt, vertexOf, marks, countMarks, marksOf}
+use Rattle.rules.specs.PathStatement.{OfContour, itself, PairOf, NotEntered, IsJumpOrTouch, Pair}
 
 -- ---- the places of a path that has grown
 
@@ -41,27 +41,35 @@ length-snoc path s = omega (arith, length-append path (s ∷ []))
 -- v and u give the first n path points the same vertices
 module _ (p : Plate) (v u : ℕ → ℕ) (n : ℕ) (same : (i : ℕ) → i < n → v i ≡ u i) (k : ℕ) (h : suc k < n) where
   pub pair-same : (kind r : ℕ) → Pair p u k kind r → Pair p v k kind r
-  pair-same kind r (inl (e, c)) = inl (e, record { segment = c .segment; sense = rw (same k (omega arith), same (suc k) h) (c .sense) })
-  pair-same kind r (inr (inl (e, b))) =
-      let l = b .earlier in
-      inr (inl (
-        e,
-        record {
-          earlier = l;
-          from = same k (omega arith) ∙ b .from ∙ sym (same (suc r) (omega arith));
-          to = same (suc k) h ∙ b .to ∙ sym (same r (omega arith));
-        },
-      ))
-  pair-same kind r (inr (inr (e, j))) =
-      let f = j .fresh in
-      inr (inr (
-        e,
-        record {
-          landing = same (suc k) h ∙ j .landing;
-          fresh = (f .0, f .1, f .2, λ i l. rw (same i (omega arith)) (f .3 i l));
-          nearest = λ i l. rw (same i (omega arith), same k (omega arith)) (j .nearest i l);
-        },
-      ))
+  pair-same kind r (of, near) = (go of, λ lands i l. rw (same i (omega arith), same k (omega arith), same (suc k) h) (near lands i l))
+    where
+      go : PairOf (contours p) (λ i. at (p .points) (u i)) itself u (NotEntered u k) k kind r
+          → PairOf (contours p) (λ i. at (p .points) (v i)) itself v (NotEntered v k) k kind r
+      go (inl (e, c)) = inl (e, record { segment = c .segment; sense = rw (same k (omega arith), same (suc k) h) (c .sense) })
+      go (inr (inl (e, b))) =
+          let l = b .earlier in
+          inr (inl (
+            e,
+            record {
+              earlier = l;
+              from = same k (omega arith) ∙ b .from ∙ sym (same (suc r) (omega arith));
+              to = same (suc k) h ∙ b .to ∙ sym (same r (omega arith));
+            },
+          ))
+      go (inr (inr (e, j))) =
+          let f = j .fresh in
+          inr (inr (
+            rw (same k (omega arith), same (suc k) h) e,
+            record {
+              landing = same (suc k) h ∙ j .landing;
+              fresh = (f .0, f .1, f .2, λ i l. rw (same i (omega arith)) (f .3 i l));
+            },
+          ))
+
+-- a cut or a back-step is no jump or touch
+pub no-landing : {A : Type 0} (kind : ℕ) → kind < jumpKind → IsJumpOrTouch kind → A
+no-landing kind h (inl e) = absurd (omega (arith, e))
+no-landing kind h (inr e) = absurd (omega (arith, e))
 
 -- ---- steps that follow a path
 
@@ -140,14 +148,15 @@ divided-pairs p (s ∷ ss) d k h = chain-pairs p (s ∷ []) ss (d .1) k (omega a
 -- ---- how many there are
 
 one-kind : (p : Plate) (v : ℕ → ℕ) (k kind r : ℕ) → Pair p v k kind r →
-    pick (eqb kind cutKind) 1 0 + pick (eqb kind backStepKind) 1 0 + pick (eqb kind jumpKind) 1 0 ≡ 1
+    pick (eqb kind cutKind) 1 0 + pick (eqb kind backStepKind) 1 0 + pick (eqb kind jumpKind) 1 0 + pick (eqb kind touchKind) 1 0 ≡ 1
 unfolding pick
-one-kind p v k kind r (inl (e, c)) = rw e
-one-kind p v k kind r (inr (inl (e, c))) = rw e
-one-kind p v k kind r (inr (inr (e, c))) = rw e
+one-kind p v k kind r (inl (e, c), n) = rw e
+one-kind p v k kind r (inr (inl (e, c)), n) = rw e
+one-kind p v k kind r (inr (inr (inl (e, t), c)), n) = rw e
+one-kind p v k kind r (inr (inr (inr (e, t), c)), n) = rw e
 
 chain-length : (p : Plate) (path ss : List Step) → Chain p path ss →
-    length ss ≡ marksOf cutKind (marks ss) + marksOf backStepKind (marks ss) + marksOf jumpKind (marks ss)
+    length ss ≡ marksOf cutKind (marks ss) + marksOf backStepKind (marks ss) + marksOf jumpKind (marks ss) + marksOf touchKind (marks ss)
 unfolding marksOf countMarks marks
 chain-length p path [] c = refl
 chain-length p path (s ∷ ss) c =
@@ -158,11 +167,19 @@ not-start : (kind : ℕ) (s : Step) (ss : List Step) → s .kind ≡ startKind �
 unfolding marksOf countMarks marks pick
 not-start kind s ss e f = rw (e, f) (zero-add _)
 
--- a start, and as many steps as there are cuts, back-steps and jumps
+-- a start, and as many steps as there are cuts, back-steps, jumps and touches
 pub divided-length : (p : Plate) (path : List Step) → Divided p path →
-    length path ≡ 1 + marksOf cutKind (marks path) + marksOf backStepKind (marks path) + marksOf jumpKind (marks path)
+    length path
+    ≡ 1 + marksOf cutKind (marks path) + marksOf backStepKind (marks path) + marksOf jumpKind (marks path) + marksOf touchKind (marks path)
 divided-length p [] d = absurd d
 divided-length p (s ∷ ss) d =
     let e = d .0 .kind in
     let after = chain-length p (s ∷ []) ss (d .1) in
-    omega (arith, after, not-start cutKind s ss e refl, not-start backStepKind s ss e refl, not-start jumpKind s ss e refl)
+    omega (
+      arith,
+      after,
+      not-start cutKind s ss e refl,
+      not-start backStepKind s ss e refl,
+      not-start jumpKind s ss e refl,
+      not-start touchKind s ss e refl,
+    )

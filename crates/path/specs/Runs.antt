@@ -12,7 +12,7 @@ use Rattle.rules.specs.HandedOver.{Plate, Contour}
 use Rattle.rules.specs.RetraceAndMarks.{Step, cutUp, cutDown, backStep, vertexOf}
 use Rattle.rules.specs.PathStatement.{IsContour}
 use Rattle.path.specs.Lists.{length-upFrom}
-use Rattle.path.specs.Pairs.{vertex-old, vertex-new, length-snoc, Follows, Chain}
+use Rattle.path.specs.Pairs.{no-landing, vertex-old, vertex-new, length-snoc, Follows, Chain}
 
 -- the path has a last point, whose vertex is v
 pub record Ends (path : List Step) (v : ℕ) : Type 0 where
@@ -46,12 +46,15 @@ pub ups-chain : (p : Plate) (c : Contour) (path : List Step) (a n : ℕ) → Seg
 unfolding cutUp
 ups-chain p c path a zero i e = tt
 ups-chain p c path a (suc n) i e = (
-  inl (
-    refl,
-    record {
-      segment = (c, i .of, i .low, omega (arith, i .high));
-      sense = inl (pair-from path (cutUp a) a e, pair-to path (cutUp a) a e);
-    },
+  (
+    inl (
+      refl,
+      record {
+        segment = (c, i .of, i .low, omega (arith, i .high));
+        sense = inl (pair-from path (cutUp a) a e, pair-to path (cutUp a) a e);
+      },
+    ),
+    no-landing _ (omega arith),
   ),
   ups-chain p c (path ++ cutUp a ∷ []) (suc a) n (record { of = i .of; low = omega (arith, i .low); high = omega (arith, i .high) })
       (ends-snoc path (cutUp a)),
@@ -63,12 +66,15 @@ unfolding cutDown
 downs-chain p c path a zero i e = tt
 downs-chain p c path a (suc n) i e =
     let e' : Ends path (suc (a + n)) = rw add-suc at e in (
-      inl (
-        refl,
-        record {
-          segment = (c, i .of, omega (arith, i .low), omega (arith, i .high));
-          sense = inr (pair-from path (cutDown (a + n)) (suc (a + n)) e', pair-to path (cutDown (a + n)) (suc (a + n)) e');
-        },
+      (
+        inl (
+          refl,
+          record {
+            segment = (c, i .of, omega (arith, i .low), omega (arith, i .high));
+            sense = inr (pair-from path (cutDown (a + n)) (suc (a + n)) e', pair-to path (cutDown (a + n)) (suc (a + n)) e');
+          },
+        ),
+        no-landing _ (omega arith),
       ),
       downs-chain p c (path ++ cutDown (a + n) ∷ []) a n (record { of = i .of; low = i .low; high = omega (arith, i .high) })
           (ends-snoc path (cutDown (a + n))),
@@ -133,17 +139,19 @@ back-follows p path v r m h e =
     let s = backTo v r m in
     let x = h .last in
     let y = h .next m in
-    let z = e .some in
-    inr (inl (
-      refl,
-      record {
-        earlier = omega arith;
-        from =
-            pair-from path s (v (suc m)) e
-            ∙ sym (vertex-old path (s ∷ []) (suc (r m)) (omega arith) ∙ ap (vertexOf path) (sym y) ∙ h .held (suc m) (omega arith));
-        to = pair-to path s (v (suc m)) e ∙ sym (vertex-old path (s ∷ []) (r m) (omega arith) ∙ h .held m (omega arith));
-      },
-    ))
+    let z = e .some in (
+      inr (inl (
+        refl,
+        record {
+          earlier = omega arith;
+          from =
+              pair-from path s (v (suc m)) e
+              ∙ sym (vertex-old path (s ∷ []) (suc (r m)) (omega arith) ∙ ap (vertexOf path) (sym y) ∙ h .held (suc m) (omega arith));
+          to = pair-to path s (v (suc m)) e ∙ sym (vertex-old path (s ∷ []) (r m) (omega arith) ∙ h .held m (omega arith));
+        },
+      )),
+      no-landing _ (omega arith),
+    )
 
 pub backs-chain : (p : Plate) (path : List Step) (v r : ℕ → ℕ) (a n : ℕ) → Stand path v r (a + n) → Ends path (v (a + n)) →
     Chain p path (map (backTo v r) (downTo a n))

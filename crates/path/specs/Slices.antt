@@ -9,10 +9,10 @@ use lib.ListN.{length, getD, length-map, List·getD-map}
 use lib.Seq.{append-snoc}
 use borrow.Author.Tests.{eq-eqb, ne-eqb}
 use Rattle.rules.specs.Tools.{pick}
-use Rattle.rules.specs.HandedOver.{Plate, at}
+use Rattle.rules.specs.HandedOver.{Plate, at, contours}
 use Rattle.rules.specs.RetraceAndMarks.{startKind, cutKind, Step, land, stepAt, vertexOf, coordinates, marks}
 use Rattle.rules.specs.Calls.{vertices}
-use Rattle.rules.specs.PathStatement.{kindAt, referenceAt, named, verticesAfter, vertexIn, Cut, Pair}
+use Rattle.rules.specs.PathStatement.{kindAt, referenceAt, named, verticesAfter, vertexIn, itself, Cut, Pair}
 use Rattle.path.specs.Pairs.{vertex-old, vertex-new, length-snoc, Follows, Chain, Divided}
 
 -- ---- the slices' lengths, and what stands at path point k
@@ -72,7 +72,7 @@ record Next (vs : List ℕ) (v : ℕ → ℕ) (u : ℕ) : Type 0 where
   old : (i : ℕ) → i < length vs → v i ≡ getD vs i 0
   new : v (suc (length vs - 1)) ≡ u
 
-cut-names : (p : Plate) (vs : List ℕ) (v : ℕ → ℕ) (u r : ℕ) → Next vs v u → Cut p v (length vs - 1) r → named vs cutKind r ≡ u
+cut-names : (p : Plate) (vs : List ℕ) (v : ℕ → ℕ) (u r : ℕ) → Next vs v u → Cut (contours p) itself v (length vs - 1) r → named vs cutKind r ≡ u
 unfolding named pick
 cut-names p vs v u r n c = go (c .sense)
   where
@@ -86,12 +86,13 @@ cut-names p vs v u r n c = go (c .sense)
 
 pair-names : (p : Plate) (vs : List ℕ) (v : ℕ → ℕ) (u kind r : ℕ) → Next vs v u → Pair p v (length vs - 1) kind r → named vs kind r ≡ u
 unfolding named pick
-pair-names p vs v u kind r n (inl (e, c)) = rw e (cut-names p vs v u r n c)
-pair-names p vs v u kind r n (inr (inl (e, b))) =
+pair-names p vs v u kind r n (inl (e, c), x) = rw e (cut-names p vs v u r n c)
+pair-names p vs v u kind r n (inr (inl (e, b)), x) =
     let l = b .earlier in
     let h = n .some in
     rw e (sym (n .old r (omega arith)) ∙ sym (b .to) ∙ n .new)
-pair-names p vs v u kind r n (inr (inr (e, j))) = rw e (sym (j .landing) ∙ n .new)
+pair-names p vs v u kind r n (inr (inr (inl (e, t), j)), x) = rw e (sym (j .landing) ∙ n .new)
+pair-names p vs v u kind r n (inr (inr (inr (e, t), j)), x) = rw e (sym (j .landing) ∙ n .new)
 
 follows-names : (p : Plate) (path : List Step) (s : Step) → 1 ≤ length path → Follows p path s →
     named (vertices path) (s .kind) (s .reference) ≡ s .vertex

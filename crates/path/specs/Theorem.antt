@@ -1,22 +1,23 @@
 -- The theorem of this crate: the path statement (demand 3), `path-statement : PathStatement` below. `PathStatement` is defined, with all that it names, in
 -- crates/rules/specs/PathStatement.antt. It says of every plate p, every path slice `path` and marks slice `ms`, and all lengths w and d of the work slices:
 -- where the retrace call answers with the counts c (o .answer ≡ gives c, o being what the call answers and leaves), and p has one contour or more that is
--- not empty (1 ≤ contourCount p), then, r being the path that document 01's rules give (retrace p),
+-- not empty (1 ≤ contourCount p), then, r being the path that the documents' rules give (retrace p),
 --
 --   c ≡ counts r                            the counts are those of that path: its points, and its marks of each kind;
 --   o .path ≡ coordinates .. ++ drop ..     the path slice begins with the coordinates of that path, and holds beyond them what it held;
 --   o .marks ≡ marks r ++ drop ..           the marks slice begins with the marks of that path, likewise;
---   Divides p c (take ..) (take ..)         what was written divides into cuts, back-steps and jumps:
+--   Divides p c (take ..) (take ..)         what was written divides into cuts, back-steps, jumps and touches:
 --     whole         there are two coordinates and two numbers of marks for each path point;
 --     coordinates   each path point has the coordinates of the vertex that the marks give it;
 --     start         the first mark is a start, and names a vertex of a contour;
 --     pairs         path points k and k + 1 are what the mark of path point k + 1 says, by its kind and its reference m:
 --                     a cut, that is segment m of a contour in one of its two senses;
 --                     a back-step, that is the pair of path points m and m + 1, which is earlier, reversed;
---                     or a jump, to vertex m of a contour that no earlier path point is of; and no earlier path point in the nine cells around
---                     that vertex is nearer, by squared distances as document 01 computes them, than the one left;
+--                     or a jump or a touch, to vertex m of a contour that no earlier path point is of; and no earlier path point in the nine cells
+--                     around that vertex is nearer, by squared distances as document 01 computes them, than the one left; a jump's two points
+--                     differ numerically, and a touch's are numerically equal;
 --     kinds         c counts the marks of each kind;
---     cuts, jumps   there are S cuts, S being the number of segments, and n − 1 jumps, n being the number of contours;
+--     cuts, jumps   there are S cuts, S being the number of segments, and n − 1 jumps and touches, n being the number of contours;
 --     all           there are S + B + n path points, B being the number of back-steps: so no pair is anything else;
 --     once          each segment of each contour is cut exactly once.
 --
@@ -41,7 +42,7 @@ use Rattle.path.specs.Entering.{retrace-divided}
 use Rattle.path.specs.Totals.{retrace-cuts, retrace-jumps, retrace-once}
 use Rattle.path.specs.Slices.{coordinates-length, marks-length, vertices-length, kind-at, reference-at, coordinates-at, vertices-at, vertex-in}
 
--- the path of document 01's rules, as slices
+-- the path of the documents' rules, as slices
 pub retrace-divides : (p : Plate) → Measurable p → AllTakePart p → 1 ≤ contourCount p →
     Divides p (counts (retrace p)) (coordinates (p .points) (vertices (retrace p))) (marks (retrace p))
 unfolding counts
@@ -61,7 +62,7 @@ retrace-divides p m t h =
       pairs = λ k l.
           rw (kind-at path (suc k) l, reference-at path (suc k) l)
           (pair-same p (vertexIn (marks path)) (vertexOf path) (length path) (λ i x. v i) k l _ _ (divided-pairs p path d k l));
-      kinds = (refl, refl, refl);
+      kinds = (refl, refl, refl, refl);
       cuts = cuts;
       jumps = jumps;
       all = omega (arith, divided-length p path d);

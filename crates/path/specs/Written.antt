@@ -6,56 +6,32 @@
 --   pairs         path points k and k + 1 are what the mark of path point k + 1 says, by its kind and its reference r:
 --                   a cut: their coordinates are those of the two ends of segment r of a contour, in one of its two senses;
 --                   a back-step: they are those of path points r + 1 and r, an earlier pair;
---                   or a jump: the second's are those of vertex r of a contour that no earlier path point is of, and no earlier path point in the nine
---                   cells around it is nearer than the first;
+--                   or a jump or a touch: the second's are those of vertex r of a contour that no earlier path point is of, and no earlier path point in
+--                   the nine cells around it is nearer than the first; a jump's two points differ, and a touch's are numerically equal;
 --   kinds, cuts, jumps, all, once   as in `Divides`, of the marks that were written.
 -- Assumes nothing.
 use mathlib.Core.Path.{_≡_, sym, ap, _∙_}
-use mathlib.Core.Bool.{not}
 use mathlib.Core.List.{List}
 use mathlib.Core.Logic.{_⊎_, inl, inr}
 use Prim.Native.Nat.{ℕ, suc, _+_, _*_, _≤_, _<_}
 use native.Mathlib.Omega.{arith}
-use lib.Dec.{T}
-use lib.Ieee.{Float, nan, lt}
+use lib.Ieee.{Float, nan}
 use lib.ListN.{length, take, length-take}
 use lib.Seq.{getD-take}
-use Rattle.rules.specs.HandedOver.{Plate, Contour, at, gives}
-use Rattle.rules.specs.Distances.{distanceSquared}
-use Rattle.rules.specs.GridAndNearest.{box, gridOf, cellOf, square, within}
-use Rattle.rules.specs.RetraceAndMarks.{startKind, cutKind, backStepKind, jumpKind, marksOf}
+use Rattle.rules.specs.HandedOver.{Plate, Contour, at, contours, gives}
+use Rattle.rules.specs.GridAndNearest.{gridOf}
+use Rattle.rules.specs.RetraceAndMarks.{startKind, cutKind, backStepKind, jumpKind, touchKind, marksOf}
 use Rattle.rules.specs.Calls.{retraceCall}
-use Rattle.rules.specs.PathStatement.{contourCount, segmentCount, IsContour, Of, OfContour, NotOf, kindAt, referenceAt, vertexIn, cutsOf, Pair, PathStatement}
+use Rattle.rules.specs.PathStatement.{contourCount, segmentCount, IsContour, OfContour, kindAt, referenceAt, vertexIn, cutsOf, PairOf, NotEntered, NoneNearer, Pair, PathStatement}
 use Rattle.rules.specs.declared.Counts.{Counts}
 use Rattle.path.specs.Theorem.{path-statement}
 
 -- ---- what is said
 
-pub record WrittenCut (p : Plate) (path : List Float) (k r : ℕ) : Type 0 where
-  pub segment : (c : Contour) × IsContour p c × (c .first ≤ r) × (r < c .first + c .last)
-  pub ends :
-      ((at path k ≡ at (p .points) r) × (at path (suc k) ≡ at (p .points) (suc r)))
-      ⊎ ((at path k ≡ at (p .points) (suc r)) × (at path (suc k) ≡ at (p .points) r))
-
-pub record WrittenBackStep (path : List Float) (k r : ℕ) : Type 0 where
-  pub earlier : suc r ≤ k
-  pub from : at path k ≡ at path (suc r)
-  pub to : at path (suc k) ≡ at path r
-
--- by coordinates, but for the contour that it enters: v gives each path point's vertex
-pub record WrittenJump (p : Plate) (path : List Float) (v : ℕ → ℕ) (k r : ℕ) : Type 0 where
-  pub landing : at path (suc k) ≡ at (p .points) r
-  pub fresh : (c : Contour) × IsContour p c × Of c r × ((i : ℕ) → i ≤ k → NotOf c (v i))
-  pub nearest :
-      let g = gridOf (box (p .points)) in
-      let q = at path (suc k) in
-      (i : ℕ) → i ≤ k → T (within (square g (cellOf g q) 1) (cellOf g (at path i)))
-      → T (not (lt (distanceSquared q (at path i)) (distanceSquared q (at path k))))
-
--- path points k and k + 1 of a path slice, the mark of path point k + 1 having this kind and the reference r
+-- Path points k and k + 1 of a path slice, the mark of path point k + 1 having this kind and the reference r: the path statement's clauses, of points; only
+-- that a contour was not entered before is said of vertices, which v gives.
 abbrev pub WrittenPair : Plate → List Float → (ℕ → ℕ) → ℕ → ℕ → ℕ → Type 0
-WrittenPair p path v k kind r =
-    ((kind ≡ cutKind) × WrittenCut p path k r) ⊎ ((kind ≡ backStepKind) × WrittenBackStep path k r) ⊎ ((kind ≡ jumpKind) × WrittenJump p path v k r)
+WrittenPair p path v k kind r = PairOf (contours p) (at path) (at (p .points)) (at path) (NotEntered v k) k kind r
 
 -- a path slice and a marks slice, in which c's path points were written
 pub record Written (p : Plate) (c : Counts) (path : List Float) (ms : List ℕ) : Type 0 where
@@ -64,12 +40,16 @@ pub record Written (p : Plate) (c : Counts) (path : List Float) (ms : List ℕ) 
   pub coordinates : let v = vertexIn (take (2 * c .points) ms) in (k : ℕ) → k < c .points → at path k ≡ at (p .points) (v k)
   pub pairs :
       let v = vertexIn (take (2 * c .points) ms) in
-      (k : ℕ) → suc k < c .points → WrittenPair p path v k (kindAt ms (suc k)) (referenceAt ms (suc k))
+      (k : ℕ) → suc k < c .points →
+      WrittenPair p path v k (kindAt ms (suc k)) (referenceAt ms (suc k)) × NoneNearer (gridOf (p .box)) (at path) k (kindAt ms (suc k))
   pub kinds :
       let written = take (2 * c .points) ms in
-      (c .cuts ≡ marksOf cutKind written) × (c .«back_steps» ≡ marksOf backStepKind written) × (c .jumps ≡ marksOf jumpKind written)
+      (c .cuts ≡ marksOf cutKind written)
+      × (c .«back_steps» ≡ marksOf backStepKind written)
+      × (c .jumps ≡ marksOf jumpKind written)
+      × (c .touches ≡ marksOf touchKind written)
   pub cuts : c .cuts ≡ segmentCount p
-  pub jumps : c .jumps + 1 ≡ contourCount p
+  pub jumps : c .jumps + c .touches + 1 ≡ contourCount p
   pub all : c .points ≡ segmentCount p + c .«back_steps» + contourCount p
   pub once : (d : Contour) → IsContour p d → (i : ℕ) → i < d .last → cutsOf (d .first + i) (take (2 * c .points) ms) ≡ 1
 
@@ -85,18 +65,21 @@ WrittenStatement =
 
 -- the first n points of a path slice have the coordinates of the vertices v
 module _ (p : Plate) (path : List Float) (v : ℕ → ℕ) (n : ℕ) (has : (i : ℕ) → i < n → at path i ≡ at (p .points) (v i)) (k : ℕ) (h : suc k < n) where
+  near-written : (kind r : ℕ) → Pair p v k kind r → NoneNearer (gridOf (p .box)) (at path) k kind
+  near-written kind r (of, near) lands i l = rw (has i (omega arith), has k (omega arith), has (suc k) h) (near lands i l)
+
   pair-written : (kind r : ℕ) → Pair p v k kind r → WrittenPair p path v k kind r
-  pair-written kind r (inl (e, c)) =
+  pair-written kind r (inl (e, c), n) =
       inl (
         e,
         record {
           segment = c .segment;
-          ends =
+          sense =
               rw (has k (omega arith), has (suc k) h)
               (elim (c .sense) [ inl s ↦ inl (rw (s .0), rw (s .1)) | inr s ↦ inr (rw (s .0), rw (s .1)) ]);
         },
       )
-  pair-written kind r (inr (inl (e, b))) =
+  pair-written kind r (inr (inl (e, b)), n) =
       let l = b .earlier in
       inr (inl (
         e,
@@ -106,15 +89,10 @@ module _ (p : Plate) (path : List Float) (v : ℕ → ℕ) (n : ℕ) (has : (i :
           to = has (suc k) h ∙ ap (at (p .points)) (b .to) ∙ sym (has r (omega arith));
         },
       ))
-  pair-written kind r (inr (inr (e, j))) =
-      let q : at path (suc k) ≡ at (p .points) r = has (suc k) h ∙ ap (at (p .points)) (j .landing) in
+  pair-written kind r (inr (inr (e, j)), n) =
       inr (inr (
-        e,
-        record {
-          landing = q;
-          fresh = j .fresh;
-          nearest = λ i l. rw (q, has i (omega arith), has k (omega arith)) (j .nearest i l);
-        },
+        rw (has k (omega arith), has (suc k) h) e,
+        record { landing = has (suc k) h ∙ ap (at (p .points)) (j .landing); fresh = j .fresh },
       ))
 
 -- the first n path points are those of a slice's first 2n numbers
@@ -148,7 +126,7 @@ written-statement p path ms w d c e h =
       coordinates = has;
       pairs = λ k l.
           rw (← kind-take n (o .marks) (suc k) l, ← reference-take n (o .marks) (suc k) l)
-          (pair-written p (o .path) v n has k l _ _ (divides .pairs k l));
+          (pair-written p (o .path) v n has k l _ _ (divides .pairs k l), near-written p (o .path) v n has k l _ _ (divides .pairs k l));
       kinds = divides .kinds;
       cuts = divides .cuts;
       jumps = divides .jumps;

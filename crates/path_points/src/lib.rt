@@ -10,6 +10,7 @@ ghost use Rattle.path.specs.FiniteDistances.{OnPlate};
 ghost use Rattle.layout.specs.Parts.{KeptFrom};
 ghost use Rattle.path_points.specs.Pen.{Pen, Grows};
 use history::insert;
+use rules::BACK_STEP;
 use rules::PathPlace;
 use rules::Point;
 use rules::SpatialGrid;
@@ -86,7 +87,7 @@ pub fn walk_back(
             y: path[2 * i + 1],
         };
         let mark = Mark {
-            kind: 2,
+            kind: BACK_STEP,
             reference: place,
         };
         k = put(g, room, &mut *path, &mut *marks, &mut *work, k, p, mark);

@@ -1,6 +1,6 @@
 // Replays the reference's recorded plates by the retrace call. Standard input holds them as words (crate words): the number of rows, then
 // the rows. A row has ten words (the number of coordinates, the number of lengths, the number of layers, width, height, 1 for Inside or 0,
-// the lengths of the path, marks, u32 work and f64 work slices), the coordinates, the lengths, the layers, the call's six numbers, and the
+// the lengths of the path, marks, u32 work and f64 work slices), the coordinates, the lengths, the layers, the call's seven numbers, and the
 // path and the marks slices as the call leaves them. Prints how many rows there were and how many differed.
 ghost use Prim.Native.Nat.{_≤_};
 use twillharbor::twillharbor_retrace;
@@ -16,6 +16,9 @@ const ROOM: usize = 262144;
 
 // As many words fit.
 const WORDS: usize = 15420;
+
+// What the call answers: number, place, points, cuts, back-steps, jumps and touches.
+const NUMBERS: usize = 7;
 
 // The arguments of the call on a plate behind its layers; of the slices lent, the lengths.
 struct Arguments {
@@ -58,9 +61,17 @@ fn call_agrees(
         work,
         distances,
     );
-    let numbers = [r.number, r.place, r.points, r.cuts, r.back_steps, r.jumps];
+    let numbers = [
+        r.number,
+        r.place,
+        r.points,
+        r.cuts,
+        r.back_steps,
+        r.jumps,
+        r.touches,
+    ];
     numbers_differ(text, i, &numbers) == 0
-        && floats_differ(text, i + 6, path) == 0
+        && floats_differ(text, i + NUMBERS, path) == 0
         && numbers_differ(text, j, marks) == 0
 }
 
@@ -86,7 +97,7 @@ fn lent_agrees(
     call_agrees(
         text,
         i,
-        i + 6 + handed.path,
+        i + NUMBERS + handed.path,
         points,
         lengths,
         layers,
@@ -150,7 +161,7 @@ fn sized_row(text: &[u8], i: usize, n: usize, m: usize, o: usize, handed: Argume
     let j = i + n;
     let k = j + m;
     let l = k + o;
-    let end = l + handed.path + handed.marks + 6;
+    let end = l + handed.path + handed.marks + NUMBERS;
     let mut points = [0.0f64; 40];
     let mut lengths = [0u32; 12];
     let mut layers = [0u32; 16];

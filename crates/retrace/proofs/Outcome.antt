@@ -9,7 +9,7 @@ use lib.Seq.{take-all, take-at}
 use borrow.Author.Tests.{lt-ltb, le-ltb}
 use Rattle.rules.specs.Tools.{pick, sum}
 use Rattle.rules.specs.HandedOver.{Plate, Answer, gives, refuses, refusal, refuseIf, checked, retraceWork, fitted, over, after, retraceRoom, WorkKept}
-use Rattle.rules.specs.RetraceAndMarks.{cutKind, backStepKind, jumpKind, Step, coordinates, marks, marksOf, retrace}
+use Rattle.rules.specs.RetraceAndMarks.{cutKind, backStepKind, jumpKind, touchKind, Step, coordinates, marks, marksOf, retrace}
 use Rattle.rules.specs.Calls.{counts, vertices, retraceCall}
 use Rattle.rules.specs.declared.Counts.{Counts}
 use Rattle.rules.specs.declared.Refusal.{Refusal}
@@ -119,11 +119,11 @@ module _ (p : Plate) (path : List Float) (ms work : List ℕ) (ds : List Float) 
 -- what is counted in the slice is counted in the marks of the path
 pub counted : (xs : List Float) (steps : List Step) (room n : ℕ) (was path : List Float) (marked ms : List ℕ) → Wrote xs steps room n was path marked ms →
     n ≤ room → (r : Counts) → r .points ≡ n → r .cuts ≡ marksOf cutKind (take (2 * n) ms) → r .«back_steps» ≡ marksOf backStepKind (take (2 * n) ms) →
-    r .jumps ≡ marksOf jumpKind (take (2 * n) ms) → r ≡ counts steps
+    r .jumps ≡ marksOf jumpKind (take (2 * n) ms) → r .touches ≡ marksOf touchKind (take (2 * n) ms) → r ≡ counts steps
 unfolding counts over
-counted xs steps room n was path marked ms w l r a b d e =
+counted xs steps room n was path marked ms w l r a b d e f =
     let k : length steps ≡ n = omega (arith, w .counted) in
     let all = take-all room steps (omega arith) in
     let t : take (2 * n) ms ≡ marks steps =
     ap (take (2 * n)) (rw all at (w .kinds)) ∙ take-at (marks steps) _ (2 * n) (omega (arith, marks-length steps, k)) in
-    rw (a ∙ sym k, b ∙ ap (marksOf cutKind) t, d ∙ ap (marksOf backStepKind) t, e ∙ ap (marksOf jumpKind) t)
+    rw (a ∙ sym k, b ∙ ap (marksOf cutKind) t, d ∙ ap (marksOf backStepKind) t, e ∙ ap (marksOf jumpKind) t, f ∙ ap (marksOf touchKind) t)

@@ -7,15 +7,19 @@ ghost use Rattle.rules.specs.Tools.{pick};
 ghost use Rattle.rules.specs.HandedOver.{plate, gives, retraceAnswer, WorkKept};
 ghost use Rattle.rules.specs.PathStatement.{contourCount, Divides, NeverFall};
 ghost use Rattle.rules.specs.declared.Counts.{Counts};
-ghost use Rattle.rules.specs.RetraceAndMarks.{cutKind, backStepKind, jumpKind, marksOf};
+ghost use Rattle.rules.specs.RetraceAndMarks.{cutKind, backStepKind, jumpKind, touchKind, marksOf};
 ghost use Rattle.rules.specs.Calls.{retraceCall};
 use joining::join_retrace;
 use plate::Checked;
 use plate::check;
+use rules::BACK_STEP;
+use rules::CUT;
 use rules::Counts;
+use rules::JUMP;
 use rules::Refusal;
 use rules::RetraceAnswer;
 use rules::StartPointStrategy;
+use rules::TOUCH;
 use slices::least;
 
 fn one_if(kind: u32, wanted: u32) -> u32
@@ -24,32 +28,36 @@ fn one_if(kind: u32, wanted: u32) -> u32
     if kind == wanted { 1 } else { 0 }
 }
 
-// How many of the first n path points' marks are cuts, back-steps and jumps.
+// How many of the first n path points' marks are cuts, back-steps, jumps and touches.
 fn count_marks(marks: &[u32], n: u32) -> Counts
     requires { ⌜ 2 * n ≤ length (now marks) ⌝ }
     ensures { λ r. ⌜
         (r .points ≡ n) × (r .cuts ≡ marksOf cutKind (take (2 * n) (now (marks .entry))))
         × (r .«back_steps» ≡ marksOf backStepKind (take (2 * n) (now (marks .entry))))
-        × (r .jumps ≡ marksOf jumpKind (take (2 * n) (now (marks .entry)))) ⌝ }
+        × (r .jumps ≡ marksOf jumpKind (take (2 * n) (now (marks .entry))))
+        × (r .touches ≡ marksOf touchKind (take (2 * n) (now (marks .entry)))) ⌝ }
 {
     let mut cuts: u32 = 0;
     let mut back_steps: u32 = 0;
     let mut jumps: u32 = 0;
+    let mut touches: u32 = 0;
     for i in 0..n {
         let kind = marks[2 * (i as usize)];
-        cuts += one_if(kind, 1);
-        back_steps += one_if(kind, 2);
-        jumps += one_if(kind, 3);
+        cuts += one_if(kind, CUT);
+        back_steps += one_if(kind, BACK_STEP);
+        jumps += one_if(kind, JUMP);
+        touches += one_if(kind, TOUCH);
     }
     Counts {
         points: n,
         cuts,
         back_steps,
         jumps,
+        touches,
     }
 }
 
-// The retrace call: path points with their marks, and how many cuts, back-steps and jumps there are. What it finishes divides as the path statement
+// The retrace call: path points with their marks, and how many cuts, back-steps, jumps and touches there are. What it finishes divides as the path statement
 // (rules/specs/PathStatement.antt) says, for every plate that has a contour, and along it the layers never fall.
 pub fn retrace_call(
     points: &[f64],

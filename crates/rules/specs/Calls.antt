@@ -9,7 +9,7 @@ use lib.Ieee.{Float}
 use Rattle.rules.specs.HandedOver.{Plate, orderRoom, straightRoom, retraceRoom, Answer, gives, refuses, distanceLimit, firstOff, refuseIf, checked, orderWork, retraceWork, fitted, after}
 use Rattle.rules.specs.Distances.{distanceSquared, distance}
 use Rattle.rules.specs.Start.{Oriented, start}
-use Rattle.rules.specs.RetraceAndMarks.{cutKind, backStepKind, jumpKind, Step, retrace, coordinates, marks, marksOf}
+use Rattle.rules.specs.RetraceAndMarks.{cutKind, backStepKind, jumpKind, touchKind, Step, retrace, coordinates, marks, marksOf}
 use Rattle.rules.specs.OrderAndStraight.{order, entries, straight}
 use Rattle.rules.specs.declared.Point.{Point}
 use Rattle.rules.specs.declared.Counts.{Counts}
@@ -52,11 +52,17 @@ straightCall p path w =
     let a = checked (p .points) (p .lengths) (p .layers) (orderWork p w (fitted c (length r) (length r))) in
     record { answer = a; path = after a c (coordinates (p .points) r) path }
 
--- path points, and S, B and n − 1 as the marks have them
+-- path points, and the cuts, back-steps, jumps and touches that the marks have
 unfoldable pub counts : List Step → Counts
 counts path =
     let ms = marks path in
-    record { points = length path; cuts = marksOf cutKind ms; «back_steps» = marksOf backStepKind ms; jumps = marksOf jumpKind ms }
+    record {
+      points = length path;
+      cuts = marksOf cutKind ms;
+      «back_steps» = marksOf backStepKind ms;
+      jumps = marksOf jumpKind ms;
+      touches = marksOf touchKind ms;
+    }
 
 -- the vertices of the path points
 unfoldable pub vertices : List Step → List ℕ

@@ -25,7 +25,7 @@ oneByOne = 0 ∷ 0 ∷ 1 ∷ 0 ∷ 1 ∷ 1 ∷ 3 ∷ 3 ∷ 1 ∷ 3 ∷ []
 
 -- the contour of layer 1 is drawn first
 pub higherFirst : NeverFall (threeAndTwo 1 0) 5 oneByOne → ⊥
-unfolding NeverFall threeAndTwo first second oneByOne plate contours contoursFrom layerAt IsContour kindAt referenceAt
+unfolding NeverFall threeAndTwo first second oneByOne plate contours contoursFrom layerAt kindAt referenceAt
 higherFirst h =
     omega (
       arith,
@@ -40,7 +40,7 @@ comesBack = 0 ∷ 0 ∷ 1 ∷ 0 ∷ 3 ∷ 3 ∷ 1 ∷ 3 ∷ 2 ∷ 2 ∷ 2 ∷ 1 
 
 -- the contours are entered in the order of their layers, but a cut of layer 0 comes after one of layer 1
 pub lowerCutLater : NeverFall (threeAndTwo 0 1) 7 comesBack → ⊥
-unfolding NeverFall threeAndTwo first second comesBack plate contours contoursFrom layerAt IsContour kindAt referenceAt
+unfolding NeverFall threeAndTwo first second comesBack plate contours contoursFrom layerAt kindAt referenceAt
 lowerCutLater h =
     omega (
       arith,
@@ -55,8 +55,19 @@ twoPoints = plate [] (1 ∷ 1 ∷ []) (1 ∷ 0 ∷ []) 0 0 Inside
 
 -- start on vertex 0, jump to vertex 1
 pub higherEntered : NeverFall twoPoints 2 (0 ∷ 0 ∷ 3 ∷ 1 ∷ []) → ⊥
-unfolding NeverFall twoPoints plate contours contoursFrom layerAt IsContour kindAt referenceAt
+unfolding NeverFall twoPoints plate contours contoursFrom layerAt kindAt referenceAt
 higherEntered h =
+    omega (
+      arith,
+      h 0 1 (omega arith) (omega arith) (record { number = 0; first = 0; last = 0 }) (record { number = 1; first = 1; last = 0 })
+          (record { contour = inl refl; new = λ e. omega arith; of = (omega arith, omega arith) })
+          (record { contour = inr (inl refl); new = λ e. omega arith; of = (omega arith, omega arith) }),
+    )
+
+-- start on vertex 0, touch on vertex 1
+pub higherTouched : NeverFall twoPoints 2 (0 ∷ 0 ∷ 4 ∷ 1 ∷ []) → ⊥
+unfolding NeverFall twoPoints plate contours contoursFrom layerAt kindAt referenceAt
+higherTouched h =
     omega (
       arith,
       h 0 1 (omega arith) (omega arith) (record { number = 0; first = 0; last = 0 }) (record { number = 1; first = 1; last = 0 })

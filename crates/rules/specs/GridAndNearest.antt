@@ -5,28 +5,13 @@ use mathlib.Core.List.{List, [], _∷_}
 use lib.IntN.{pos}
 use lib.Dec.{leb, ltb, eqb}
 use lib.Ieee.{Float, nan, inf, fin, binary64, up, down, add, sub, mul, div, ofInt, toUnsigned, lt, eq}
-use Rattle.rules.specs.Tools.{pick, foldl, lesser, greater}
+use Rattle.rules.specs.Tools.{pick, foldl, greater}
 use Rattle.rules.specs.Distances.{distanceSquared}
 use Rattle.rules.specs.declared.Point.{Point}
 use Rattle.rules.specs.declared.BoundingBox.{BoundingBox}
 use Rattle.rules.specs.declared.SpatialGrid.{SpatialGrid}
 use Rattle.rules.specs.declared.Nearest.{Nearest}
 use Rattle.rules.specs.declared.Nearest.the-variants.{Found, Nothing}
-
--- ---- the box
-
--- least and greatest coordinates; only contours that are not empty have any
-unfoldable pub widen : BoundingBox → Float → Float → BoundingBox
-widen b x y =
-    record { «min_x» = lesser (b .«min_x») x; «min_y» = lesser (b .«min_y») y; «max_x» = greater (b .«max_x») x; «max_y» = greater (b .«max_y») y }
-
-unfoldable pub boxFrom : BoundingBox → List Float → BoundingBox
-boxFrom b [] = b
-boxFrom b (x ∷ []) = b
-boxFrom b (x ∷ y ∷ xs) = boxFrom (widen b x y) xs
-
-unfoldable pub box : List Float → BoundingBox
-box xs = boxFrom (record { «min_x» = inf false; «min_y» = inf false; «max_x» = inf true; «max_y» = inf true }) xs
 
 -- ---- the grid
 

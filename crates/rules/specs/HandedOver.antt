@@ -9,7 +9,9 @@ use lib.ListN.{length, take, drop, getD}
 use lib.IntN.{pos}
 use lib.Ieee.{Float, nan, fin, neg, le}
 use Rattle.rules.specs.Tools.{pick, sum, highestLayer}
+use Rattle.rules.specs.Box.{box}
 use Rattle.rules.specs.declared.Point.{Point}
+use Rattle.rules.specs.declared.BoundingBox.{BoundingBox}
 use Rattle.rules.specs.declared.StartPointStrategy.{StartPointStrategy}
 use Rattle.rules.specs.declared.Counts.{Counts}
 use Rattle.rules.specs.declared.Refusal.{Refusal}
@@ -37,9 +39,12 @@ pub record Plate : Type 0 where
   pub width : ℕ
   pub height : ℕ
   pub strategy : StartPointStrategy
+  -- what the grid lies over
+  pub box : BoundingBox
 
+-- the plate's box is that of its points
 unfoldable pub plate : List Float → List ℕ → List ℕ → ℕ → ℕ → StartPointStrategy → Plate
-plate xs ns ls w h s = record { points = xs; lengths = ns; layers = ls; width = w; height = h; strategy = s }
+plate xs ns ls w h s = record { points = xs; lengths = ns; layers = ls; width = w; height = h; strategy = s; box = box xs }
 
 -- the point at a place of an f64 slice: of the points, that of a vertex number
 unfoldable pub at : List Float → ℕ → Point

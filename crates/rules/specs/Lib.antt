@@ -1,4 +1,5 @@
 pub mod Tools
+pub mod Box
 pub mod HandedOver
 pub mod Distances
 pub mod Start

@@ -2,28 +2,30 @@
 -- mistake apart that its comment names.
 -- No expected value comes from the definitions. Paths, orders, starts, distances and grids are what the Rust gives for these plates, its functions unchanged.
 -- Marks are those of a separate transcription of the Rust that writes marks too, its paths being equal to the Rust's; counts are how many marks there are
--- of a kind. Refusals, their places and what the slices then hold follow document 01's text, worked out by hand. The rows of layers, at the end, follow
--- document 02's text, worked out by hand.
+-- of a kind. A jump of these between equal points is a touch, kind 4, by document 02's text. Refusals, their places and what the slices then hold follow
+-- document 01's text, and the rows of touches and of layers document 02's, worked out by hand. The row of a plate in another box than its points' own, which
+-- the Rust cannot be given, is worked out by hand too.
 use mathlib.Core.Path.{_≡_, refl}
 use Prim.Native.Nat.{ℕ, zero, suc, _+_, _*_, _^_}
 use mathlib.Core.Bool.{Bool, true, false}
 use mathlib.Core.List.{List, [], _∷_, _++_, map}
 use lib.IntN.{pos, negsuc}
 use lib.ListN.{length, replicate}
-use lib.Ieee.{Float, nan, inf, fin, binary64, round, neg, add, sub, mul, div, rem, le, ofInt, toUnsigned}
+use lib.Ieee.{Float, nan, inf, fin, binary64, round, neg, add, sub, mul, div, rem, le, eq, ofInt, toUnsigned}
 use Rattle.rules.specs.Tools.{pick, sum, without, having, least, leads, winner, highestLayer, lowest, foremost, lesser, greater}
 use Rattle.rules.specs.HandedOver.{Plate, plate, at, contoursFrom, contours, vertexAt, layerAt, orderRoom, straightRoom, retraceRoom}
 use Rattle.rules.specs.HandedOver.{Answer, gives, refuses, inRange, plateLimit, distanceLimit, firstOff, firstBad, refuseIf, counted, layered, onPlate, checked, orderWork, retraceWork}
 use Rattle.rules.specs.HandedOver.{fitted, over, after}
 use Rattle.rules.specs.Distances.{mulAdd, rootBy, floorRoot, roundRoot, sqrt, distanceSquared, distance}
 use Rattle.rules.specs.Start.{half, centre, oriented, ends, layerOf, beats, start}
-use Rattle.rules.specs.GridAndNearest.{widen, boxFrom, box, cellSize, ceiling, cellsAlong, gridOf, indexAlong, cellOf, square, within, onBorder}
+use Rattle.rules.specs.Box.{widen, boxFrom, box}
+use Rattle.rules.specs.GridAndNearest.{cellSize, ceiling, cellsAlong, gridOf, indexAlong, cellOf, square, within, onBorder}
 use Rattle.rules.specs.GridAndNearest.{seenFrom, found, wins, nearer, scanRing, bound, beyond, scanFrom, nearest}
 use Rattle.rules.specs.SamplesAndCache.{sampledAfter, sampled, cellNumber, cellAt, sampleAt, samplesFrom, samples, cache, cached, querySample, seeded}
 use Rattle.rules.specs.SamplesAndCache.{met, listed, listedRow, listedSquare, listedAround, cellsAround, queryIn, updatedIn, updated}
 use Rattle.rules.specs.SamplesAndCache.{waiting, askPath, keep, seed, update}
-use Rattle.rules.specs.RetraceAndMarks.{land, cutUp, cutDown, backStep, stepAt, vertexOf, walkTo, walkBack, forward as forwardSteps, backward}
-use Rattle.rules.specs.RetraceAndMarks.{returnTo, bothWays, emit, begin, pathPoints, closer, waitingLayer, choose, numberOf, placeIn, entered, joinAll}
+use Rattle.rules.specs.RetraceAndMarks.{coincide, landingKind, land, cutUp, cutDown, backStep, stepAt, vertexOf, walkTo, walkBack, forward as forwardSteps, backward}
+use Rattle.rules.specs.RetraceAndMarks.{returnTo, bothWays, emit, entryOf, begin, pathPoints, closer, waitingLayer, choose, numberOf, placeIn, entered, joinAll}
 use Rattle.rules.specs.RetraceAndMarks.{retraceFrom, retraceOf, retrace, coordinates, marks, countMarks, marksOf}
 use Rattle.rules.specs.OrderAndStraight.{lastEnd, nearerSense, nearerEnd, contourNumber, orderAfter, orderFrom, orderOf, order, entries, straight}
 use Rattle.rules.specs.Calls.{distanceCall, startOr, startCall, orderCall, straightCall, counts, vertices, retraceCall}
@@ -111,9 +113,13 @@ forward = false
 reversed : Bool
 reversed = true
 
--- path points, cuts, back-steps, jumps
+-- path points, cuts, back-steps, jumps, touches
+touching : ℕ → ℕ → ℕ → ℕ → ℕ → Answer Counts
+touching n s b j t = gives (record { points = n; cuts = s; «back_steps» = b; jumps = j; touches = t })
+
+-- no touches
 joined : ℕ → ℕ → ℕ → ℕ → Answer Counts
-joined n s b j = gives (record { points = n; cuts = s; «back_steps» = b; jumps = j })
+joined n s b j = touching n s b j 0
 
 -- ---- rows
 
@@ -209,7 +215,7 @@ replyTo (orderOn p n w) = let o = orderCall p (unwritten n) w in ordered (o .ans
 replyTo (straightOn p n w) = let o = straightCall p (unwrittenPath n) w in straightened (o .answer) (map computed (o .path))
 replyTo (retraceOn p n m w d) = let o = retraceCall p (unwrittenPath n) (unwritten m) w d in retraced (o .answer) (map computed (o .path)) (o .marks)
 replyTo (roomIn n) = room (orderRoom n) (straightRoom n) (retraceRoom n n)
-replyTo (gridOn p) = let g = gridOf (box (p .points)) in grid (computed (g .«cell_size»)) (g .cols) (g .rows)
+replyTo (gridOn p) = let g = gridOf (p .box) in grid (computed (g .«cell_size»)) (g .cols) (g .rows)
 replyTo (rulesOn p) = ruled (startOr (start p)) (entries (order p)) (marks (retrace p))
 
 -- ---- plates and points of more than one row
@@ -245,6 +251,26 @@ I = point (binary (2 ^ 27 + 1) 27) (binary 5 29)
 -- with contours that are skipped
 skipping : Plate
 skipping = drawn whole ([] ∣ (0, 0) ∷ (4, 0) ∷ [] ∣ [] ∣ (9, 0) ∷ (5, 0) ∷ [] ∣ (1, 1) ∷ (1, 2) ∷ [] ∣ (9, 1) ∷ [] ∣ []) 0 0 Inside
+
+-- the third contour's point is the middle of the first
+middled : Plate
+middled = drawn whole ((0, 0) ∷ (4, 0) ∷ (8, 0) ∷ [] ∣ (0, 1) ∷ [] ∣ (4, 0) ∷ [] ∣ []) 0 0 Inside
+
+-- (4,1) | (0,0)(4,0)(8,0), and the same in a box from (0,0) to (1000,0), whose cells have the size 20
+overMiddle : Plate
+overMiddle = drawn whole ((4, 1) ∷ [] ∣ (0, 0) ∷ (4, 0) ∷ (8, 0) ∷ [] ∣ []) 8 2 Inside
+
+inWideBox : Plate → Plate
+inWideBox p =
+    record {
+      points = p .points;
+      lengths = p .lengths;
+      layers = p .layers;
+      width = p .width;
+      height = p .height;
+      strategy = p .strategy;
+      box = record { «min_x» = whole 0; «min_y» = whole 0; «max_x» = whole 1000; «max_y» = whole 0 };
+    }
 
 -- the last point is farther from the first than the other
 threePoints : Plate
@@ -450,8 +476,8 @@ table =
     -- caches are updated after each later contour
     ∷ retraces (drawn whole ((0, 0) ∷ [] ∣ (2, 0) ∷ (0, 0) ∷ [] ∣ (1, 2) ∷ [] ∣ []) 0 0 Outside)
     (along whole ((1, 2) ∷ (0, 0) ∷ (0, 0) ∷ (2, 0) ∷ []))
-    ((0, 3) ∷ (3, 0) ∷ (3, 2) ∷ (1, 1) ∷ [])
-    (joined 4 1 0 2)
+    ((0, 3) ∷ (3, 0) ∷ (4, 2) ∷ (1, 1) ∷ [])
+    (touching 4 1 0 1 1)
     -- the listed cells are those within 1: not the own cell alone
     ∷ retraces (drawn whole ((6, 1) ∷ [] ∣ (44, 1) ∷ [] ∣ (5, 1) ∷ [] ∣ (25, 1) ∷ [] ∣ []) 50 0 Inside)
     (along whole ((25, 1) ∷ (6, 1) ∷ (5, 1) ∷ (6, 1) ∷ (25, 1) ∷ (44, 1) ∷ []))
@@ -475,18 +501,18 @@ table =
     -- cells around each point are listed, not only around the ends
     ∷ retraces (drawn whole ((4, 0) ∷ [] ∣ (1, 0) ∷ [] ∣ (3, 0) ∷ [] ∣ (2, 0) ∷ (1, 0) ∷ (4, 0) ∷ [] ∣ []) 4 0 Outside)
     (along whole ((4, 0) ∷ (4, 0) ∷ (1, 0) ∷ (2, 0) ∷ (1, 0) ∷ (1, 0) ∷ (1, 0) ∷ (2, 0) ∷ (3, 0) ∷ []))
-    ((0, 0) ∷ (3, 5) ∷ (1, 4) ∷ (1, 3) ∷ (2, 2) ∷ (3, 1) ∷ (2, 4) ∷ (2, 3) ∷ (3, 2) ∷ [])
-    (joined 9 2 3 3)
+    ((0, 0) ∷ (4, 5) ∷ (1, 4) ∷ (1, 3) ∷ (2, 2) ∷ (4, 1) ∷ (2, 4) ∷ (2, 3) ∷ (3, 2) ∷ [])
+    (touching 9 2 3 1 2)
     -- samples are queried by cell, not by contour
     ∷ retraces (drawn whole ((3, 0) ∷ (4, 0) ∷ [] ∣ (4, 0) ∷ (3, 0) ∷ [] ∣ (0, 0) ∷ [] ∣ (4, 1) ∷ [] ∣ []) 0 0 Outside)
     (along whole ((4, 1) ∷ (4, 0) ∷ (3, 0) ∷ (3, 0) ∷ (4, 0) ∷ (3, 0) ∷ (0, 0) ∷ []))
-    ((0, 5) ∷ (3, 1) ∷ (1, 0) ∷ (3, 3) ∷ (1, 2) ∷ (2, 3) ∷ (3, 4) ∷ [])
-    (joined 7 2 1 3)
+    ((0, 5) ∷ (3, 1) ∷ (1, 0) ∷ (4, 3) ∷ (1, 2) ∷ (2, 3) ∷ (3, 4) ∷ [])
+    (touching 7 2 1 2 1)
     -- cells are listed by points in vertex order, not in the order of emission
     ∷ retraces (drawn whole ((8, 0) ∷ (4, 0) ∷ [] ∣ (1, 0) ∷ [] ∣ (8, 0) ∷ (4, 0) ∷ [] ∣ []) 0 0 Inside)
     (along whole ((1, 0) ∷ (4, 0) ∷ (8, 0) ∷ (8, 0) ∷ (4, 0) ∷ []))
-    ((0, 2) ∷ (3, 1) ∷ (1, 0) ∷ (3, 3) ∷ (1, 3) ∷ [])
-    (joined 5 2 0 2)
+    ((0, 2) ∷ (3, 1) ∷ (1, 0) ∷ (4, 3) ∷ (1, 3) ∷ [])
+    (touching 5 2 0 1 1)
     -- cells are listed by rows, then columns
     ∷ retraces (drawn whole ((27, 1) ∷ [] ∣ (27, 2) ∷ (28, 1) ∷ [] ∣ (0, 1) ∷ [] ∣ []) 0 0 Inside)
     (along whole ((0, 1) ∷ (27, 1) ∷ (28, 1) ∷ (27, 2) ∷ []))
@@ -500,13 +526,13 @@ table =
     -- columns from the lowest
     ∷ retraces (drawn whole ((50, 0) ∷ [] ∣ (8, 0) ∷ (7, 0) ∷ [] ∣ (7, 0) ∷ (8, 0) ∷ [] ∣ []) 8 0 Outside)
     (along whole ((50, 0) ∷ (8, 0) ∷ (7, 0) ∷ (7, 0) ∷ (8, 0) ∷ []))
-    ((0, 0) ∷ (3, 1) ∷ (1, 1) ∷ (3, 3) ∷ (1, 3) ∷ [])
-    (joined 5 2 0 2)
+    ((0, 0) ∷ (3, 1) ∷ (1, 1) ∷ (4, 3) ∷ (1, 3) ∷ [])
+    (touching 5 2 0 1 1)
     -- the point's own cell is not listed before the row below it
     ∷ retraces (drawn whole ((0, 2) ∷ (0, 1) ∷ [] ∣ (29, 1) ∷ [] ∣ (0, 1) ∷ (0, 2) ∷ [] ∣ []) 0 0 Outside)
     (along whole ((29, 1) ∷ (0, 1) ∷ (0, 2) ∷ (0, 1) ∷ (0, 1) ∷ (0, 2) ∷ []))
-    ((0, 2) ∷ (3, 1) ∷ (1, 0) ∷ (2, 1) ∷ (3, 3) ∷ (1, 3) ∷ [])
-    (joined 6 2 1 2)
+    ((0, 2) ∷ (3, 1) ∷ (1, 0) ∷ (2, 1) ∷ (4, 3) ∷ (1, 3) ∷ [])
+    (touching 6 2 1 1 1)
     -- within a cell from the lowest vertex
     ∷ retraces (drawn whole ((0, 1) ∷ (0, 1) ∷ [] ∣ (0, 2) ∷ [] ∣ (34, 3) ∷ [] ∣ []) 0 0 Outside)
     (along whole ((34, 3) ∷ (0, 2) ∷ (0, 1) ∷ (0, 1) ∷ []))
@@ -523,11 +549,73 @@ table =
     (along whole ((4, 0) ∷ (13, 0) ∷ (4, 0) ∷ (4, 1) ∷ (8, 1) ∷ (12, 1) ∷ (8, 1) ∷ (4, 1) ∷ (0, 1) ∷ []))
     ((0, 0) ∷ (1, 0) ∷ (2, 0) ∷ (3, 3) ∷ (1, 3) ∷ (1, 4) ∷ (2, 4) ∷ (2, 3) ∷ (1, 2) ∷ [])
     (joined 9 4 3 1)
-    -- a jump of length zero counts as a jump
+    -- the grid, and the samples by it, lie over the plate's box: where the cells are larger than the contour only its ends are samples
+    ∷ retraces overMiddle
+    (along whole ((4, 1) ∷ (4, 0) ∷ (8, 0) ∷ (4, 0) ∷ (0, 0) ∷ []))
+    ((0, 0) ∷ (3, 2) ∷ (1, 2) ∷ (2, 1) ∷ (1, 1) ∷ [])
+    (joined 5 2 1 1)
+    ∷ retraces (inWideBox overMiddle)
+    (along whole ((4, 1) ∷ (0, 0) ∷ (4, 0) ∷ (8, 0) ∷ []))
+    ((0, 0) ∷ (3, 1) ∷ (1, 1) ∷ (1, 2) ∷ [])
+    (joined 4 2 0 1)
+    -- touches: an end meets an end
     ∷ retraces (drawn whole ((0, 0) ∷ (4, 0) ∷ [] ∣ (4, 0) ∷ [] ∣ []) 0 0 Inside)
     (along whole ((0, 0) ∷ (4, 0) ∷ (4, 0) ∷ []))
-    ((0, 0) ∷ (1, 0) ∷ (3, 2) ∷ [])
-    (joined 3 1 0 1)
+    ((0, 0) ∷ (1, 0) ∷ (4, 2) ∷ [])
+    (touching 3 1 0 0 1)
+    -- one after the other
+    ∷ retraces (drawn whole ((1, 1) ∷ [] ∣ (1, 1) ∷ [] ∣ (1, 1) ∷ [] ∣ []) 0 0 Inside)
+    (along whole ((1, 1) ∷ (1, 1) ∷ (1, 1) ∷ []))
+    ((0, 0) ∷ (4, 1) ∷ (4, 2) ∷ [])
+    (touching 3 0 0 0 2)
+    -- 0 and −0 are equal; the path has the landing's own bits
+    ∷ retraces (plate (whole 0 ∷ neg (whole 0) ∷ neg (whole 0) ∷ whole 0 ∷ whole 4 ∷ whole 0 ∷ []) (1 ∷ 2 ∷ []) (0 ∷ 0 ∷ []) 0 0 Inside)
+    (whole 0 ∷ neg (whole 0) ∷ neg (whole 0) ∷ whole 0 ∷ whole 4 ∷ whole 0 ∷ [])
+    ((0, 0) ∷ (4, 1) ∷ (1, 1) ∷ [])
+    (touching 3 1 0 0 1)
+    -- a squared distance of 0 is no touch where a coordinate differs: 0 and the least number above it, as x and as y
+    ∷ retraces (plate (whole 0 ∷ whole 0 ∷ binary 1 1074 ∷ whole 0 ∷ []) (1 ∷ 1 ∷ []) (0 ∷ 0 ∷ []) 0 0 Inside)
+    (whole 0 ∷ whole 0 ∷ binary 1 1074 ∷ whole 0 ∷ [])
+    ((0, 0) ∷ (3, 1) ∷ [])
+    (joined 2 0 0 1)
+    ∷ retraces (plate (whole 0 ∷ whole 0 ∷ whole 0 ∷ binary 1 1074 ∷ []) (1 ∷ 1 ∷ []) (0 ∷ 0 ∷ []) 0 0 Inside)
+    (whole 0 ∷ whole 0 ∷ whole 0 ∷ binary 1 1074 ∷ [])
+    ((0, 0) ∷ (3, 1) ∷ [])
+    (joined 2 0 0 1)
+    -- The fresh place decides, and not the cached one: the third point was cached at (0,0), and the second's place is as near, and higher.
+    ∷ retraces (plate (whole 0 ∷ whole 0 ∷ binary 1 1074 ∷ whole 0 ∷ binary 1 1074 ∷ whole 0 ∷ []) (1 ∷ 1 ∷ 1 ∷ []) (0 ∷ 0 ∷ 0 ∷ []) 0 0 Inside)
+    (whole 0 ∷ whole 0 ∷ binary 1 1074 ∷ whole 0 ∷ binary 1 1074 ∷ whole 0 ∷ [])
+    ((0, 0) ∷ (3, 1) ∷ (4, 2) ∷ [])
+    (touching 3 0 0 1 1)
+    -- and only the point that is left counts: an equal one lies before it on the path, at place 0
+    ∷ retraces (plate (whole 0 ∷ whole 0 ∷ binary 1 1074 ∷ whole 0 ∷ whole 0 ∷ whole 0 ∷ []) (1 ∷ 1 ∷ 1 ∷ []) (0 ∷ 0 ∷ 0 ∷ []) 0 0 Inside)
+    (whole 0 ∷ whole 0 ∷ binary 1 1074 ∷ whole 0 ∷ whole 0 ∷ whole 0 ∷ [])
+    ((0, 0) ∷ (3, 1) ∷ (3, 2) ∷ [])
+    (joined 3 0 0 2)
+    -- into the middle of a contour
+    ∷ retraces (drawn whole ((4, 0) ∷ [] ∣ (0, 0) ∷ (4, 0) ∷ (8, 0) ∷ [] ∣ []) 8 0 Inside)
+    (along whole ((4, 0) ∷ (4, 0) ∷ (8, 0) ∷ (4, 0) ∷ (0, 0) ∷ []))
+    ((0, 0) ∷ (4, 2) ∷ (1, 2) ∷ (2, 1) ∷ (1, 1) ∷ [])
+    (touching 5 2 1 0 1)
+    -- the point left is where the walk back ends, not where the path ended
+    ∷ retraces (drawn whole ((0, 0) ∷ (4, 0) ∷ [] ∣ (0, 0) ∷ [] ∣ []) 0 0 Inside)
+    (along whole ((0, 0) ∷ (4, 0) ∷ (0, 0) ∷ (0, 0) ∷ []))
+    ((0, 0) ∷ (1, 0) ∷ (2, 0) ∷ (4, 2) ∷ [])
+    (touching 4 1 1 0 1)
+    -- a cut and a back-step between equal points stay what they are: the back-step at place 5 takes back the touch
+    ∷ retraces (drawn whole ((2, 0) ∷ (2, 0) ∷ [] ∣ []) 0 0 Inside)
+    (along whole ((2, 0) ∷ (2, 0) ∷ []))
+    ((0, 0) ∷ (1, 0) ∷ [])
+    (joined 2 1 0 0)
+    ∷ retraces middled
+    (along whole ((0, 0) ∷ (4, 0) ∷ (8, 0) ∷ (4, 0) ∷ (4, 0) ∷ (4, 0) ∷ (8, 0) ∷ (4, 0) ∷ (0, 0) ∷ (0, 1) ∷ []))
+    ((0, 0) ∷ (1, 0) ∷ (1, 1) ∷ (2, 1) ∷ (4, 4) ∷ (2, 3) ∷ (2, 2) ∷ (2, 1) ∷ (2, 0) ∷ (3, 3) ∷ [])
+    (touching 10 2 5 1 1)
+    -- the place that is walked back to is itself a back-step's: 3, and not 1
+    ∷ retraces (inLayers (0 ∷ 0 ∷ 1 ∷ []) middled)
+    (along whole ((0, 0) ∷ (4, 0) ∷ (8, 0) ∷ (4, 0) ∷ (0, 0) ∷ (0, 1) ∷ (0, 0) ∷ (4, 0) ∷ (4, 0) ∷ []))
+    ((0, 0) ∷ (1, 0) ∷ (1, 1) ∷ (2, 1) ∷ (2, 0) ∷ (3, 3) ∷ (2, 4) ∷ (2, 3) ∷ (4, 4) ∷ [])
+    (touching 9 2 4 1 1)
     -- contours that hold no point are skipped, and are no jumps
     ∷ retraces skipping
     (along whole ((0, 0) ∷ (4, 0) ∷ (5, 0) ∷ (9, 0) ∷ (5, 0) ∷ (4, 0) ∷ (0, 0) ∷ (1, 1) ∷ (1, 2) ∷ (1, 1) ∷ (0, 0) ∷ (4, 0) ∷ (5, 0) ∷ (9, 0) ∷ (9, 1) ∷ []))
@@ -649,8 +737,8 @@ table =
     (joined 5 1 1 2)
     ∷ retraces (inLayers (0 ∷ 1 ∷ 0 ∷ []) (drawn whole ((0, 0) ∷ [] ∣ (0, 3) ∷ (9, 0) ∷ [] ∣ (9, 0) ∷ [] ∣ []) 0 0 Inside))
     (along whole ((0, 0) ∷ (9, 0) ∷ (9, 0) ∷ (0, 3) ∷ []))
-    ((0, 0) ∷ (3, 3) ∷ (3, 2) ∷ (1, 1) ∷ [])
-    (joined 4 1 0 2)
+    ((0, 0) ∷ (3, 3) ∷ (4, 2) ∷ (1, 1) ∷ [])
+    (touching 4 1 0 1 1)
     -- 13: a wrong length of the slice comes first, place M; then the first contour with a layer above 15, a skipped one too
     ∷ startOn (inLayers (16 ∷ 0 ∷ []) threePoints) ⇒ starts (refuses 13 3)
     ∷ startOn (inLayers (0 ∷ 0 ∷ 0 ∷ 0 ∷ []) threePoints) ⇒ starts (refuses 13 3)
@@ -684,10 +772,10 @@ table =
 pub plates : map (λ r. replyTo (r .call)) table ≡ map (λ r. r .reply) table
 unfolding
     table whole decimal binary tenths minusTenths hundredths thousandths sixteenths sixtyFourths _∣_ along pointsOf drawn handed inLayers point pairs
-    unwritten unwrittenPath forward reversed joined _⇒_ orderIn straightIn retraceIn retraces numeral computed bothComputed replyTo
-    A B C D E F G zeroPoint I skipping threePoints fourPoints skippedFirst abovePlateLimit aboveDistanceLimit
+    unwritten unwrittenPath forward reversed touching joined _⇒_ orderIn straightIn retraceIn retraces numeral computed bothComputed replyTo
+    A B C D E F G zeroPoint I skipping middled overMiddle inWideBox threePoints fourPoints skippedFirst abovePlateLimit aboveDistanceLimit
     -- floats
-    neg add sub mul div rem le ofInt toUnsigned
+    neg add sub mul div rem le eq ofInt toUnsigned
     -- Tools, HandedOver
     pick sum without having least leads winner highestLayer lowest foremost lesser greater plate at contoursFrom contours vertexAt layerAt orderRoom straightRoom retraceRoom
     inRange plateLimit distanceLimit firstOff firstBad refuseIf counted layered onPlate checked orderWork retraceWork fitted over after
@@ -700,7 +788,7 @@ unfolding
     sampledAfter sampled cellNumber cellAt sampleAt samplesFrom samples cache cached querySample seeded
     met listed listedRow listedSquare listedAround cellsAround queryIn updatedIn updated waiting askPath keep seed update
     -- RetraceAndMarks
-    land cutUp cutDown backStep stepAt vertexOf walkTo walkBack forwardSteps backward returnTo bothWays emit begin pathPoints closer waitingLayer choose numberOf placeIn
+    coincide landingKind land cutUp cutDown backStep stepAt vertexOf walkTo walkBack forwardSteps backward returnTo bothWays emit entryOf begin pathPoints closer waitingLayer choose numberOf placeIn
     entered joinAll retraceFrom retraceOf retrace coordinates marks countMarks marksOf
     -- OrderAndStraight, Calls
     lastEnd nearerSense nearerEnd contourNumber orderAfter orderFrom orderOf order entries straight

@@ -1,16 +1,16 @@
--- "Retrace and marks" of document 01, with the layers of document 02. Every path point has the coordinates of a vertex, so the path is a list of steps, each
--- a vertex and a mark; the slices are its coordinates and its marks. Definitions only.
+-- "Retrace and marks" of document 01, with the layers and the touches of document 02. Every path point has the coordinates of a vertex, so the path is a list
+-- of steps, each a vertex and a mark; the slices are its coordinates and its marks. Definitions only.
 use Prim.Native.Nat.{ℕ, zero, suc, _+_, _-_, _*_}
-use mathlib.Core.Bool.{Bool, true, false}
+use mathlib.Core.Bool.{Bool, true, false, _&&_}
 use mathlib.Core.List.{List, [], _∷_, _++_, map}
 use mathlib.Core.Option.{Option, none, some}
 use lib.Dec.{eqb}
 use lib.ListN.{length, getD}
-use lib.Ieee.{Float, lt}
+use lib.Ieee.{Float, lt, eq}
 use Rattle.rules.specs.Tools.{pick, upFrom, downTo, without, foremost}
 use Rattle.rules.specs.HandedOver.{Plate, Contour, at, contours, vertexAt, layerAt}
 use Rattle.rules.specs.Start.{Oriented, start}
-use Rattle.rules.specs.GridAndNearest.{box, gridOf, nearest}
+use Rattle.rules.specs.GridAndNearest.{gridOf, nearest}
 use Rattle.rules.specs.SamplesAndCache.{Waiting, waiting, seed, update, cellsAround}
 use Rattle.rules.specs.declared.Point.{Point}
 use Rattle.rules.specs.declared.SpatialGrid.{SpatialGrid}
@@ -32,13 +32,24 @@ backStepKind = 2
 abbrev pub jumpKind : ℕ
 jumpKind = 3
 
+abbrev pub touchKind : ℕ
+touchKind = 4
+
+-- the points are numerically equal: 0 and −0 are
+unfoldable pub coincide : Point → Point → Bool
+coincide a b = eq (a .x) (b .x) && eq (a .y) (b .y)
+
+-- from point a to the landing b: a touch is a jump between equal points
+unfoldable pub landingKind : Point → Point → ℕ
+landingKind a b = pick (coincide a b) touchKind jumpKind
+
 -- a path point: the number of its vertex, and its mark
 pub record Step : Type 0 where
   pub vertex : ℕ
   pub kind : ℕ
   pub reference : ℕ
 
--- a start or a jump: the vertex number landed on
+-- a start, a jump or a touch: the vertex number landed on
 unfoldable pub land : ℕ → ℕ → Step
 land kind v = record { vertex = v; kind = kind; reference = v }
 
@@ -82,17 +93,21 @@ unfoldable pub returnTo : ℕ → ℕ → ℕ → Step
 returnTo v b i = backStep (v + i) (b + i)
 
 -- e up to last, back to e, then e − 1 down to 0; b is the place of the landing
-unfoldable pub bothWays : Contour → ℕ → ℕ → List Step
-bothWays c e b =
-    (land jumpKind (c .first + e) ∷ map cutUp (upFrom (c .first + e) (c .last - e)))
+unfoldable pub bothWays : ℕ → Contour → ℕ → ℕ → List Step
+bothWays kind c e b =
+    (land kind (c .first + e) ∷ map cutUp (upFrom (c .first + e) (c .last - e)))
     ++ map (returnTo (c .first + e) b) (downTo 0 (c .last - e))
     ++ map cutDown (downTo (c .first) e)
 
-unfoldable pub emit : Contour → ℕ → ℕ → List Step
-emit c e b = pick (eqb e 0) (forward jumpKind c) (pick (eqb e (c .last)) (backward jumpKind c) (bothWays c e b))
+unfoldable pub emit : ℕ → Contour → ℕ → ℕ → List Step
+emit kind c e b = pick (eqb e 0) (forward kind c) (pick (eqb e (c .last)) (backward kind c) (bothWays kind c e b))
+
+-- the vertex that comes first in a sense, counted from 0 within the contour
+unfoldable pub entryOf : Oriented → ℕ
+entryOf s = pick (s .reversed) (s .contour .last) 0
 
 unfoldable pub begin : Oriented → List Step
-begin s = pick (s .reversed) (backward startKind (s .contour)) (forward startKind (s .contour))
+begin s = emit startKind (s .contour) (entryOf s) 0
 
 -- ---- joining
 
@@ -118,12 +133,13 @@ unfoldable pub placeIn : Nearest → ℕ
 placeIn Nothing = 0
 placeIn (Found k d) = k .0
 
--- the path with the chosen contour: its entry is queried afresh for the place h
+-- The path with the chosen contour: its entry is queried afresh for the place h, to which the path is walked back. So path point h is the one left.
 unfoldable pub entered : Plate → SpatialGrid → List Step → Waiting → List Step
 entered p g path w =
-    let h = placeIn (nearest g (pathPoints p path) (vertexAt p (w .contour) (w .kept .entry))) in
+    let q = vertexAt p (w .contour) (w .kept .entry) in
+    let h = placeIn (nearest g (pathPoints p path) q) in
     let back = path ++ walkBack path h in
-    back ++ emit (w .contour) (w .kept .entry) (length back)
+    back ++ emit (landingKind (at (p .points) (vertexOf path h)) q) (w .contour) (w .kept .entry) (length back)
 
 -- n more contours; a step that finds no waiting candidate ends the joining
 unfoldable pub joinAll : Plate → SpatialGrid → ℕ → List Waiting → List Step → List Step
@@ -146,7 +162,7 @@ retraceFrom p g s cs =
 -- the whole path of a plate; with no contour it is empty
 unfoldable pub retraceOf : Plate → Option Oriented → List Step
 retraceOf p none = []
-retraceOf p (some s) = retraceFrom p (gridOf (box (p .points))) s (contours p)
+retraceOf p (some s) = retraceFrom p (gridOf (p .box)) s (contours p)
 
 unfoldable pub retrace : Plate → List Step
 retrace p = retraceOf p (start p)

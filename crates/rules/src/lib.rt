@@ -1,4 +1,4 @@
-// The declared types of document 01. Their definitions, in specs/, count path places and vertex numbers in ℕ.
+// The declared types and constants of the documents. Their definitions, in specs/, count path places and vertex numbers in ℕ.
 
 pub enum StartPointStrategy {
     Outside,
@@ -53,6 +53,17 @@ pub enum Refusal {
 // Layers are 0 to this.
 pub const HIGHEST_LAYER: u32 = 15;
 
+// The kinds of marks.
+pub const START: u32 = 0;
+
+pub const CUT: u32 = 1;
+
+pub const BACK_STEP: u32 = 2;
+
+pub const JUMP: u32 = 3;
+
+pub const TOUCH: u32 = 4;
+
 // Squared and plain distance.
 pub enum DistanceAnswer {
     Distances(f64, f64),
@@ -77,12 +88,13 @@ pub enum StraightAnswer {
     NoStraight(Refusal),
 }
 
-// Path points, cuts, back-steps and jumps.
+// Path points, cuts, back-steps, jumps and touches.
 pub struct Counts {
     pub points: u32,
     pub cuts: u32,
     pub back_steps: u32,
     pub jumps: u32,
+    pub touches: u32,
 }
 
 pub enum RetraceAnswer {

@@ -39,9 +39,9 @@ straightResult (refuses n k) = record { number = n; place = k; points = 0 }
 
 unfoldable pub retraceResult : Answer Counts → RetraceResult
 retraceResult (gives c) =
-    record { number = 0; place = 0; points = c .points; cuts = c .cuts; «back_steps» = c .«back_steps»; jumps = c .jumps }
-retraceResult (refuses n k) = record { number = n; place = k; points = 0; cuts = 0; «back_steps» = 0; jumps = 0 }
+    record { number = 0; place = 0; points = c .points; cuts = c .cuts; «back_steps» = c .«back_steps»; jumps = c .jumps; touches = c .touches }
+retraceResult (refuses n k) = record { number = n; place = k; points = 0; cuts = 0; «back_steps» = 0; jumps = 0; touches = 0 }
 
 -- the counts that a struct carries
 unfoldable pub countsOf : RetraceResult → Counts
-countsOf r = record { points = r .points; cuts = r .cuts; «back_steps» = r .«back_steps»; jumps = r .jumps }
+countsOf r = record { points = r .points; cuts = r .cuts; «back_steps» = r .«back_steps»; jumps = r .jumps; touches = r .touches }

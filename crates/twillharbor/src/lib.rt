@@ -235,6 +235,7 @@ pub struct RetraceResult {
     pub cuts: u32,
     pub back_steps: u32,
     pub jumps: u32,
+    pub touches: u32,
 }
 
 // Where the number is 0 and a contour holds a point, what was written divides as the path statement (rules/specs/PathStatement.antt) says.
@@ -281,6 +282,7 @@ pub extern "C" fn twillharbor_retrace(
             cuts: counts.cuts,
             back_steps: counts.back_steps,
             jumps: counts.jumps,
+            touches: counts.touches,
         },
         RetraceAnswer::NotJoined(r) => {
             let n = numbers_of(r);
@@ -291,6 +293,7 @@ pub extern "C" fn twillharbor_retrace(
                 cuts: 0,
                 back_steps: 0,
                 jumps: 0,
+                touches: 0,
             }
         }
     }

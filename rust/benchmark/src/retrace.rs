@@ -1,13 +1,14 @@
-//! Retrace against the reference's `join_retrace`, at the two plates of document 02's ticket 10
-//! and at scaled copies of them, whose coordinates are no whole numbers; and against that of the
-//! reference with layers, at the two plates in sixteen layers.
+//! Retrace against the reference's `join_retrace`, at the two plates of document 02's ticket 10,
+//! at scaled copies of them, whose coordinates are no whole numbers, and at copies whose contours
+//! touch along each row; and against that of the reference with layers, at the two plates in
+//! sixteen layers.
 //!
 //! Each side is given the plate in its own form, made before the clock starts: the library
 //! slices that are lent to it, long enough for the path, the reference polylines.
 
 use std::hint::black_box;
 
-use harness::plates::{falling_layers, polylines, rows};
+use harness::plates::{falling_layers, polylines, rows, touching_rows};
 use mujou_reference::{join, types};
 use mujou_reference_layers::{join as layered_join, types as layered_types};
 use twillharbor::{Plate, Size, StartPointStrategy, retrace_work};
@@ -23,6 +24,8 @@ pub fn report() {
         println!("{contours} contours of {points} points, {per_row} to a row");
         compare("retrace", &in_rows, &lengths);
         compare("retrace, scaled", &scaled, &lengths);
+        let (touching, lengths) = touching_rows(contours, points, per_row);
+        compare("retrace, touching", &touching, &lengths);
         compare_in_layers("in sixteen layers", &in_rows, &lengths, &falling_layers(contours));
     }
 }

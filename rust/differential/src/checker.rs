@@ -1,12 +1,13 @@
 //! A check of a path with marks, written from the documents' text alone: it knows neither how
 //! a path is made nor what else is compared.
 //!
-//! The marks divide the pairs of neighbouring path points into cuts, back-steps and jumps.
-//! Each segment of each contour is cut exactly once; each back-step reverses an earlier pair;
-//! each jump enters a contour not entered before, and leaves a point than which no earlier
-//! path point in the nine cells around the landing is nearer. Along the path the layers of the
-//! contours that are entered and of those whose segments are cut never fall. All coordinates are
-//! compared by their bits.
+//! The marks divide the pairs of neighbouring path points into cuts, back-steps, jumps and
+//! touches. Each segment of each contour is cut exactly once; each back-step reverses an earlier
+//! pair; each jump or touch enters a contour not entered before, and leaves a point than which no
+//! earlier path point in the nine cells around the landing is nearer. The two points of a jump
+//! differ as numbers, those of a touch are equal: 0 and -0 are equal. Along the path the
+//! layers of the contours that are entered and of those whose segments are cut never fall. All
+//! other coordinates are compared by their bits.
 
 use std::collections::HashMap;
 use std::fmt;
@@ -28,10 +29,12 @@ pub struct Counts {
     pub cuts: u32,
     pub back_steps: u32,
     pub jumps: u32,
+    pub touches: u32,
 }
 
 /// A rule that a path can break. S is the number of segments of all contours, B that of marks
-/// of kind 2, n that of contours that hold a point.
+/// of kind 2, n that of contours that hold a point. What is said of an entry holds of jumps and
+/// of touches.
 #[derive(Debug, Clone, Copy, PartialEq, Eq)]
 pub enum Rule {
     Whole,
@@ -40,9 +43,11 @@ pub enum Rule {
     StartComesOnce,
     LandingIsAVertex,
     LandingHasItsBits,
-    JumpEntersAnew,
-    JumpLeavesTheNearest,
-    JumpDoesNotFall,
+    EntryIsAnew,
+    EntryLeavesTheNearest,
+    EntryDoesNotFall,
+    JumpLeavesAnother,
+    TouchLeavesAnEqual,
     CutIsASegment,
     CutComesOnce,
     CutLeavesAnEnd,
@@ -53,7 +58,9 @@ pub enum Rule {
     BackStepHasItsBits,
     CutsAreS,
     BackStepsAreB,
-    JumpsAreOneLess,
+    EntriesAreOneLess,
+    JumpsAreCounted,
+    TouchesAreCounted,
     PointsAreTheSum,
 }
 
@@ -61,18 +68,21 @@ impl Rule {
     const fn words(self) -> &'static str {
         match self {
             Self::Whole => "path and marks have as many points as are counted",
-            Self::KindsAreThese => "a mark's kind is 0, 1, 2 or 3",
+            Self::KindsAreThese => "a mark's kind is 0, 1, 2, 3 or 4",
             Self::StartComesFirst => "the first path point is a start",
             Self::StartComesOnce => "no other path point is a start",
-            Self::LandingIsAVertex => "a start or a jump names a vertex of a contour",
-            Self::LandingHasItsBits => "a start or a jump has its vertex's coordinates",
-            Self::JumpEntersAnew => "a jump enters a contour not entered before",
-            Self::JumpLeavesTheNearest => {
-                "no earlier path point in the nine cells is nearer than the one that a jump leaves"
+            Self::LandingIsAVertex => "a start, jump or touch names a vertex of a contour",
+            Self::LandingHasItsBits => "a start, jump or touch has its vertex's coordinates",
+            Self::EntryIsAnew => "a jump or touch enters a contour not entered before",
+            Self::EntryLeavesTheNearest => {
+                "no earlier path point in the nine cells is nearer than the one that a jump or \
+                 touch leaves"
             }
-            Self::JumpDoesNotFall => {
-                "a jump enters no contour of a lower layer than any entered or cut before"
+            Self::EntryDoesNotFall => {
+                "a jump or touch enters no contour of a lower layer than any entered or cut before"
             }
+            Self::JumpLeavesAnother => "the two points of a jump differ as numbers",
+            Self::TouchLeavesAnEqual => "the two points of a touch are equal as numbers",
             Self::CutIsASegment => "a cut names a segment of a contour",
             Self::CutComesOnce => "a segment is cut once",
             Self::CutLeavesAnEnd => "a cut leaves one end of its segment",
@@ -85,7 +95,9 @@ impl Rule {
             Self::BackStepHasItsBits => "a back-step has the coordinates of its pair's beginning",
             Self::CutsAreS => "there are S cuts, and as many are counted",
             Self::BackStepsAreB => "the back-steps are counted",
-            Self::JumpsAreOneLess => "there are n - 1 jumps, and as many are counted",
+            Self::EntriesAreOneLess => "there are n - 1 jumps and touches together, or none",
+            Self::JumpsAreCounted => "the jumps are counted",
+            Self::TouchesAreCounted => "the touches are counted",
             Self::PointsAreTheSum => "there are S + B + n path points",
         }
     }
@@ -122,8 +134,10 @@ pub fn check(claim: &Claim) -> Result<(), Broken> {
     // No segment is cut twice and no contour entered twice, so that of as many none is left.
     at_end(marked(1) == segments && counts.cuts as usize == segments, Rule::CutsAreS)?;
     at_end(counts.back_steps as usize == marked(2), Rule::BackStepsAreB)?;
-    let jumps = contours.saturating_sub(1);
-    at_end(marked(3) == jumps && counts.jumps as usize == jumps, Rule::JumpsAreOneLess)?;
+    let entries = contours.saturating_sub(1);
+    at_end(marked(3) + marked(4) == entries, Rule::EntriesAreOneLess)?;
+    at_end(counts.jumps as usize == marked(3), Rule::JumpsAreCounted)?;
+    at_end(counts.touches as usize == marked(4), Rule::TouchesAreCounted)?;
     at_end(end == segments + marked(2) + contours, Rule::PointsAreTheSum)
 }
 
@@ -169,10 +183,19 @@ impl<'a> Walk<'a> {
         let vertex = match (kind, place) {
             (0, 0) => self.land(place, reference)?,
             (0, _) => return Err(Rule::StartComesOnce),
-            (1..=3, 0) => return Err(Rule::StartComesFirst),
+            (1..=4, 0) => return Err(Rule::StartComesFirst),
             (1, _) => self.cut(place, reference)?,
             (2, _) => self.step_back(place, reference)?,
-            (3, _) => self.jump(place, reference)?,
+            (3, _) => {
+                let landing = self.enter(place, reference)?;
+                holds(self.path[place] != self.path[place - 1], Rule::JumpLeavesAnother)?;
+                landing
+            }
+            (4, _) => {
+                let landing = self.enter(place, reference)?;
+                holds(self.path[place] == self.path[place - 1], Rule::TouchLeavesAnEqual)?;
+                landing
+            }
             _ => return Err(Rule::KindsAreThese),
         };
         self.vertex.push(vertex);
@@ -187,7 +210,7 @@ impl<'a> Walk<'a> {
         holds(vertex < self.vertices.len(), Rule::LandingIsAVertex)?;
         holds(same(self.path[place], self.vertices[vertex]), Rule::LandingHasItsBits)?;
         self.entered[self.contour[vertex]] = true;
-        self.rise(vertex, Rule::JumpDoesNotFall)?;
+        self.rise(vertex, Rule::EntryDoesNotFall)?;
         Ok(vertex)
     }
 
@@ -199,13 +222,14 @@ impl<'a> Walk<'a> {
         Ok(())
     }
 
-    fn jump(&mut self, place: usize, vertex: usize) -> Result<usize, Rule> {
+    /// A jump or a touch.
+    fn enter(&mut self, place: usize, vertex: usize) -> Result<usize, Rule> {
         holds(vertex < self.vertices.len(), Rule::LandingIsAVertex)?;
-        holds(!self.entered[self.contour[vertex]], Rule::JumpEntersAnew)?;
+        holds(!self.entered[self.contour[vertex]], Rule::EntryIsAnew)?;
         let landing = self.land(place, vertex)?;
         let left = squared(self.path[place], self.path[place - 1]);
         let nearer = self.near.around(self.path[place]).any(|near| near < left);
-        holds(!nearer, Rule::JumpLeavesTheNearest)?;
+        holds(!nearer, Rule::EntryLeavesTheNearest)?;
         Ok(landing)
     }
 
@@ -329,8 +353,9 @@ mod tests {
         }
     }
 
+    /// Without touches.
     fn counts(points: u32, cuts: u32, back_steps: u32, jumps: u32) -> Counts {
-        Counts { points, cuts, back_steps, jumps }
+        Counts { points, cuts, back_steps, jumps, touches: 0 }
     }
 
     /// Plate E.
@@ -359,6 +384,32 @@ mod tests {
         }
     }
 
+    /// Plate E with its other contour moved to where the walk back ends, and a segment longer.
+    fn touching(landing: [f64; 2]) -> Drawn {
+        let [a, b, c, e] = [[0.0, 0.0], [4.0, 0.0], [8.0, 0.0], [0.0, 4.0]];
+        Drawn {
+            points: [a, b, c, landing, e].concat(),
+            lengths: vec![3, 2],
+            layers: vec![0, 0],
+            path: vec![a, b, c, b, a, landing, e],
+            marks: vec![[0, 0], [1, 0], [1, 1], [2, 1], [2, 0], [4, 3], [1, 3]],
+            counts: Counts { touches: 1, ..counts(7, 3, 2, 0) },
+        }
+    }
+
+    /// Two single points, the second entered by a mark of this kind.
+    fn two(points: [[f64; 2]; 2], kind: u32) -> Drawn {
+        let entries = |of| u32::from(kind == of);
+        Drawn {
+            points: points.concat(),
+            lengths: vec![1, 1],
+            layers: vec![0, 0],
+            path: points.to_vec(),
+            marks: vec![[0, 0], [kind, 1]],
+            counts: Counts { touches: entries(4), ..counts(2, 0, 0, entries(3)) },
+        }
+    }
+
     #[test]
     fn marked_plates_pass() {
         assert_eq!(e().check(), Ok(()));
@@ -382,6 +433,120 @@ mod tests {
             counts: counts(0, 0, 0, 0),
         };
         assert_eq!(a.check(), Ok(()));
+        let nothing = [
+            (Counts { cuts: 1, ..a.counts }, Rule::CutsAreS),
+            (Counts { back_steps: 1, ..a.counts }, Rule::BackStepsAreB),
+            (Counts { jumps: 1, ..a.counts }, Rule::JumpsAreCounted),
+            (Counts { touches: 1, ..a.counts }, Rule::TouchesAreCounted),
+        ];
+        for (counts, rule) in nothing {
+            assert_eq!(a.damaged(|a| a.counts = counts), (rule, 0));
+        }
+    }
+
+    /// Points that are equal as numbers, though not all by their bits.
+    const EQUAL: [[[f64; 2]; 2]; 6] = [
+        [[1.5, -2.5], [1.5, -2.5]],
+        [[0.0, 0.0], [0.0, 0.0]],
+        [[0.0, 7.0], [-0.0, 7.0]],
+        [[7.0, -0.0], [7.0, 0.0]],
+        [[-0.0, 0.0], [0.0, -0.0]],
+        [[5e-324, 0.0], [5e-324, -0.0]],
+    ];
+
+    /// Points that are not: without a squared distance, with one coordinate in common, with the
+    /// same coordinates in another place or of another sign, and next to one another.
+    const DIFFERENT: [[[f64; 2]; 2]; 12] = [
+        [[0.0, 0.0], [1e-200, 0.0]],
+        [[0.0, 0.0], [0.0, -1e-200]],
+        [[0.0, 0.0], [5e-324, 0.0]],
+        [[-0.0, 0.0], [0.0, 5e-324]],
+        [[5e-324, 1.0], [-5e-324, 1.0]],
+        [[3.0, 1.0], [3.0, 2.0]],
+        [[1.0, 3.0], [2.0, 3.0]],
+        [[1.0, 2.0], [2.0, 1.0]],
+        [[1.0, 2.0], [-1.0, 2.0]],
+        [[1.0, 2.0], [1.0, -2.0]],
+        [[1.0, 1.0], [1.0_f64.next_up(), 1.0]],
+        [[1.0, 1.0], [1.0, 1.0_f64.next_down()]],
+    ];
+
+    #[test]
+    fn a_touch_is_between_equal_points_and_a_jump_is_not() {
+        for points in EQUAL {
+            assert_eq!(two(points, 4).check(), Ok(()), "{points:?}");
+            let broken = Broken { rule: Rule::JumpLeavesAnother, place: 1 };
+            assert_eq!(two(points, 3).check(), Err(broken), "{points:?}");
+        }
+        for points in DIFFERENT {
+            assert_eq!(two(points, 3).check(), Ok(()), "{points:?}");
+            let broken = Broken { rule: Rule::TouchLeavesAnEqual, place: 1 };
+            assert_eq!(two(points, 4).check(), Err(broken), "{points:?}");
+        }
+    }
+
+    #[test]
+    fn a_touch_is_left_where_the_walk_back_ends() {
+        for landing in [[0.0, 0.0], [-0.0, 0.0], [0.0, -0.0]] {
+            let drawn = touching(landing);
+            assert_eq!(drawn.check(), Ok(()));
+            assert_eq!(drawn.damaged(|t| t.marks[5][0] = 3), (Rule::JumpLeavesAnother, 5));
+        }
+        assert_eq!(e().damaged(|e| e.marks[5][0] = 4), (Rule::TouchLeavesAnEqual, 5));
+        // Straight from (8,0), by either kind.
+        let mut straight = touching([0.0, 0.0]);
+        straight.path.drain(3..5);
+        straight.marks.drain(3..5);
+        straight.counts = Counts { touches: 1, ..counts(5, 3, 0, 0) };
+        assert_eq!(straight.damaged(|_| ()), (Rule::EntryLeavesTheNearest, 3));
+        assert_eq!(straight.damaged(|t| t.marks[3][0] = 3), (Rule::EntryLeavesTheNearest, 3));
+    }
+
+    #[test]
+    fn a_touch_keeps_the_rules_of_a_jump() {
+        let drawn = touching([-0.0, 0.0]);
+        // The vertex's own bits, not those of the point that is left.
+        assert_eq!(drawn.damaged(|t| t.path[5] = [0.0, 0.0]), (Rule::LandingHasItsBits, 5));
+        assert_eq!(drawn.damaged(|t| t.marks[5][1] = 0), (Rule::EntryIsAnew, 5));
+        assert_eq!(drawn.damaged(|t| t.marks[5][1] = 4), (Rule::LandingHasItsBits, 5));
+        assert_eq!(drawn.damaged(|t| t.marks[5][1] = 5), (Rule::LandingIsAVertex, 5));
+        assert_eq!(drawn.damaged(|t| t.layers = vec![1, 0]), (Rule::EntryDoesNotFall, 5));
+        assert_eq!(drawn.damaged(|t| t.marks[0][0] = 4), (Rule::StartComesFirst, 0));
+        assert_eq!(drawn.damaged(|t| t.marks[5][0] = 0), (Rule::StartComesOnce, 5));
+        assert_eq!(drawn.damaged(|t| t.marks[5][0] = 1), (Rule::CutLeavesAnEnd, 5));
+        assert_eq!(drawn.damaged(|t| t.marks[5] = [2, 0]), (Rule::BackStepLeavesItsEnd, 5));
+        assert_eq!(drawn.damaged(|t| t.marks[5] = [2, 3]), (Rule::BackStepHasItsBits, 5));
+    }
+
+    #[test]
+    fn a_cut_or_a_back_step_between_equal_points_is_no_touch() {
+        // (0,0)(4,0)(4,0) | (0,1): a cut and a step back of length zero.
+        let [a, b, d] = [[0.0, 0.0], [4.0, 0.0], [0.0, 1.0]];
+        let drawn = Drawn {
+            points: [a, b, b, d].concat(),
+            lengths: vec![3, 1],
+            layers: vec![0, 0],
+            path: vec![a, b, b, b, a, d],
+            marks: vec![[0, 0], [1, 0], [1, 1], [2, 1], [2, 0], [3, 3]],
+            counts: counts(6, 2, 2, 1),
+        };
+        assert_eq!(drawn.check(), Ok(()));
+        assert_eq!(drawn.damaged(|p| p.marks[2] = [4, 2]), (Rule::EntryIsAnew, 2));
+        assert_eq!(drawn.damaged(|p| p.marks[3] = [4, 1]), (Rule::EntryIsAnew, 3));
+    }
+
+    #[test]
+    fn jumps_and_touches_are_counted_apart() {
+        let counted = |jumps, touches| {
+            move |drawn: &mut Drawn| drawn.counts = Counts { jumps, touches, ..drawn.counts }
+        };
+        let drawn = touching([0.0, 0.0]);
+        assert_eq!(drawn.damaged(counted(1, 0)), (Rule::JumpsAreCounted, 7));
+        assert_eq!(drawn.damaged(counted(1, 1)), (Rule::JumpsAreCounted, 7));
+        assert_eq!(drawn.damaged(counted(0, 0)), (Rule::TouchesAreCounted, 7));
+        assert_eq!(drawn.damaged(counted(0, 2)), (Rule::TouchesAreCounted, 7));
+        assert_eq!(e().damaged(counted(0, 1)), (Rule::JumpsAreCounted, 6));
+        assert_eq!(e().damaged(counted(1, 1)), (Rule::TouchesAreCounted, 6));
     }
 
     #[test]
@@ -393,7 +558,9 @@ mod tests {
 
     #[test]
     fn kinds_are_these() {
-        assert_eq!(e().damaged(|e| e.marks[3][0] = 4), (Rule::KindsAreThese, 3));
+        assert_eq!(e().damaged(|e| e.marks[3][0] = 5), (Rule::KindsAreThese, 3));
+        assert_eq!(e().damaged(|e| e.marks[5][0] = 5), (Rule::KindsAreThese, 5));
+        assert_eq!(e().damaged(|e| e.marks[0][0] = 5), (Rule::KindsAreThese, 0));
         assert_eq!(e().damaged(|e| e.marks[0][0] = u32::MAX), (Rule::KindsAreThese, 0));
     }
 
@@ -424,7 +591,7 @@ mod tests {
             e.marks[3] = [3, 0];
             e.path[3] = e.path[0];
         };
-        assert_eq!(e().damaged(again), (Rule::JumpEntersAnew, 3));
+        assert_eq!(e().damaged(again), (Rule::EntryIsAnew, 3));
     }
 
     #[test]
@@ -445,14 +612,14 @@ mod tests {
             e.marks.push([3, 4]);
             e.counts = counts(5, 2, 0, 2);
         };
-        assert_eq!(straight.damaged(wider), (Rule::JumpLeavesTheNearest, 3));
+        assert_eq!(straight.damaged(wider), (Rule::EntryLeavesTheNearest, 3));
     }
 
     #[test]
     fn a_jump_does_not_fall() {
         // To a lower layer than the start's, and than that of a contour entered later.
-        assert_eq!(e().damaged(|e| e.layers = vec![1, 0]), (Rule::JumpDoesNotFall, 5));
-        assert_eq!(f().damaged(|f| f.layers[2] = 1), (Rule::JumpDoesNotFall, 1));
+        assert_eq!(e().damaged(|e| e.layers = vec![1, 0]), (Rule::EntryDoesNotFall, 5));
+        assert_eq!(f().damaged(|f| f.layers[2] = 1), (Rule::EntryDoesNotFall, 1));
         let again = |e: &mut Drawn| {
             e.points.extend([0.0, 2.0]);
             e.lengths.push(1);
@@ -461,7 +628,7 @@ mod tests {
             e.marks.push([3, 4]);
             e.counts = counts(7, 2, 2, 2);
         };
-        assert_eq!(e().damaged(again), (Rule::JumpDoesNotFall, 6));
+        assert_eq!(e().damaged(again), (Rule::EntryDoesNotFall, 6));
     }
 
     #[test]
@@ -556,15 +723,22 @@ mod tests {
     }
 
     #[test]
-    fn jumps_are_one_less() {
-        assert_eq!(e().damaged(|e| e.counts.jumps = 2), (Rule::JumpsAreOneLess, 6));
+    fn jumps_and_touches_are_one_less() {
+        assert_eq!(e().damaged(|e| e.counts.jumps = 2), (Rule::JumpsAreCounted, 6));
         // The second contour is not entered.
         let unentered = |e: &mut Drawn| {
             e.path.pop();
             e.marks.pop();
             e.counts = counts(5, 2, 2, 0);
         };
-        assert_eq!(e().damaged(unentered), (Rule::JumpsAreOneLess, 5));
+        assert_eq!(e().damaged(unentered), (Rule::EntriesAreOneLess, 5));
+        // Nor here, where a touch should enter it.
+        let untouched = |drawn: &mut Drawn| {
+            drawn.path.pop();
+            drawn.marks.pop();
+            drawn.counts = counts(1, 0, 0, 0);
+        };
+        assert_eq!(two(EQUAL[0], 4).damaged(untouched), (Rule::EntriesAreOneLess, 1));
     }
 
     #[test]

@@ -36,8 +36,12 @@ const LAYERINGS: [Layering; 10] = [
     Layering::AgainstTheOrder,
 ];
 
-/// A plate whose contours are in layer 0, with layers of one sort or another.
+/// A plate whose contours are in layer 0, with layers of one sort or another. One that has layers
+/// keeps them.
 pub fn in_layers(plate: Plate, random: &mut Random) -> Plate {
+    if plate.layers.iter().any(|&layer| layer > 0) {
+        return plate;
+    }
     let layering = if random.one_in(5) { Layering::One } else { random.pick(&LAYERINGS) };
     let layers = layers(layering, &plate, random);
     assert_eq!(layers.len(), plate.lengths.len());

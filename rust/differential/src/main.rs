@@ -14,6 +14,7 @@ mod joining;
 mod layers;
 mod leaves;
 mod lent;
+mod meeting;
 mod mujou;
 mod pairs;
 mod plates;
@@ -24,6 +25,7 @@ mod retrace_plates;
 mod retracing;
 mod rule;
 mod run;
+mod touches;
 
 use std::env;
 use std::fs;

@@ -27,6 +27,7 @@
 
 mod in_layers;
 pub mod retrace;
+mod touching;
 
 use harness::random::Random;
 use twillharbor::Size;

@@ -74,11 +74,11 @@ fn joined<M: Mujou>(plate: &Plate, strategy: StartPointStrategy) -> Result<Joine
     Ok((start::<M>(plate, &contours, strategy), order, straight))
 }
 
-/// The reference's path with document 01's marks, or the refusal of a plate that is refused for
+/// The reference's path with the documents' marks, or the refusal of a plate that is refused for
 /// its points, lengths or layers. A path that has more points than the cap says can be
 /// exponentially long: then the copy of the reference that stops gives its beginning.
 ///
-/// The reference has no marks. They are those of document 01 as transcribed in `rule`, and it
+/// The reference has no marks. They are those of the documents as transcribed in `rule`, and it
 /// is an error where its path differs from the reference's.
 pub fn retrace(
     plate: &Plate,

@@ -1,11 +1,12 @@
-//! Plates for the retrace call: those of `plates`, and others that lie at the edges of what
-//! its grid, its search and its samples decide.
+//! Plates for the retrace call: those of `plates`, others that lie at the edges of what its grid,
+//! its search and its samples decide, and those of `meeting`.
 
-use harness::plates::{falling_layers, in_rows, rows as rows_of};
+use harness::plates::{falling_layers, in_rows, rows as rows_of, touching_rows};
 use harness::random::Random;
 use twillharbor::Size;
 
 use crate::floats::nudged;
+use crate::meeting::{self, MEETINGS, Meeting};
 use crate::plates::{
     self, LIMIT, MOST_CONTOURS, MOST_POINTS, Plate, all_contours, all_points, of_lengths, up_to,
 };
@@ -20,6 +21,7 @@ pub enum Kind {
     CellSteps,
     Scattered,
     Rows,
+    Meeting(Meeting),
 }
 
 const MORE: [(Kind, &str); 5] = [
@@ -30,15 +32,21 @@ const MORE: [(Kind, &str); 5] = [
     (Kind::Rows, "rows of up to 65,536 points"),
 ];
 
-pub const KINDS: [(Kind, &str); plates::KINDS.len() + MORE.len()] = {
-    let mut kinds = [MORE[0]; plates::KINDS.len() + MORE.len()];
+/// Where the plates of `meeting` begin among all kinds.
+const FIRST_MEETING: usize = plates::KINDS.len() + MORE.len();
+
+pub const KINDS: [(Kind, &str); FIRST_MEETING + MEETINGS.len()] = {
+    let mut kinds = [MORE[0]; FIRST_MEETING + MEETINGS.len()];
     let mut at = 0;
     while at < kinds.len() {
         kinds[at] = if at < plates::KINDS.len() {
             let (kind, name) = plates::KINDS[at];
             (Kind::Of(kind), name)
-        } else {
+        } else if at < FIRST_MEETING {
             MORE[at - plates::KINDS.len()]
+        } else {
+            let (meeting, name) = MEETINGS[at - FIRST_MEETING];
+            (Kind::Meeting(meeting), name)
         };
         at += 1;
     }
@@ -61,6 +69,7 @@ pub fn plate(kind: Kind, random: &mut Random) -> Plate {
         Kind::CellSteps => framed(steps, random),
         Kind::Scattered => scattered(random),
         Kind::Rows => rows(random),
+        Kind::Meeting(meeting) => meeting::plate(meeting, random),
     };
     assert!(plate.lengths.len() <= MOST_CONTOURS);
     assert_eq!(plate.points.len() as u32, 2 * plate.lengths.iter().sum::<u32>());
@@ -281,11 +290,16 @@ pub enum Large {
     Rows([usize; 3], f64),
     /// The same, unscaled, with layers for that many contours.
     RowsInLayers([usize; 3], fn(usize) -> Vec<u32>),
+    /// Contours, points of each and contours to a row, each of which starts where the one before
+    /// ends.
+    TouchingRows([usize; 3]),
+    /// Lines of a net each way, or contours of a chain.
+    Meeting(Meeting, i64),
     /// Contours and points of each.
     Random([usize; 2]),
 }
 
-pub const LARGE: [(Large, &str); 14] = [
+pub const LARGE: [(Large, &str); 18] = [
     (Large::Rows([200, 50, 10], 1.0), "200 contours of 50 points in rows"),
     (Large::Rows([200, 50, 10], 0.37), "the same, scaled"),
     (Large::Rows([4_000, 16, 40], 1.0), "4,000 contours of 16 points in rows"),
@@ -306,6 +320,10 @@ pub const LARGE: [(Large, &str); 14] = [
         Large::RowsInLayers([4_000, 16, 40], alternating_layers),
         "4,000 contours of 16 points in rows, in two layers in turn",
     ),
+    (Large::TouchingRows([200, 50, 10]), "200 contours of 50 points in rows, end on start"),
+    (Large::TouchingRows([4_000, 16, 40]), "4,000 contours of 16 points in rows, end on start"),
+    (Large::Meeting(Meeting::Net, 12), "a net of 12 lines each way"),
+    (Large::Meeting(Meeting::Chain, 2_000), "a chain of 2,000 contours"),
     (Large::Rows([4_096, 16, 64], 1.0), "4,096 contours of 16 points in rows"),
     (Large::Rows([16, 4_096, 2], 1.0), "16 contours of 4,096 points in rows"),
     (Large::Rows([1, 65_536, 1], 1.0), "one contour of 65,536 points"),
@@ -330,6 +348,10 @@ pub fn large_plate(large: Large, random: &mut Random) -> Plate {
             let shift = if scale == 1.0 { 0.0 } else { 0.11 };
             (coordinates.iter().map(|c| c * scale + shift).collect(), lengths)
         }
+        Large::TouchingRows([contours, points, per_row]) => {
+            touching_rows(contours, points, per_row)
+        }
+        Large::Meeting(meeting, many) => return meeting::large(meeting, many, random),
         Large::Random([contours, points]) => {
             let coordinates = (0..2 * contours * points).map(|_| random.unit() * 1_000.0);
             (coordinates.collect(), vec![points as u32; contours])

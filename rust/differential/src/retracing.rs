@@ -2,14 +2,14 @@
 //!
 //! Every call is lent slices between margins of random bits, and all bits are compared
 //! afterwards: of the answer, of inputs and outputs, and of both work slices after every
-//! refusal but 6. The marks are compared with those of document 01 as transcribed in `rule`,
+//! refusal but 6. The marks are compared with those of the documents as transcribed in `rule`,
 //! and the checker looks at every result.
 
 use std::sync::atomic::{AtomicU64, Ordering};
 
 use harness::random::Random;
 use twillharbor::StartPointStrategy::{self, Inside, Outside};
-use twillharbor::{PairKind, c};
+use twillharbor::{MarkedPath, PairKind, c};
 
 use crate::checker::{self, Claim, Counts};
 use crate::handed::Handed;
@@ -20,6 +20,7 @@ use crate::reference::retrace;
 use crate::retrace_plates::{KINDS, Kind, LARGE, large_plate, plate};
 use crate::rule::{self, NUMBERS, Retrace};
 use crate::run::{self, Plan};
+use crate::touches::Seen;
 
 /// How many damaged copies of each plate are handed over.
 const COPIES: usize = 4;
@@ -32,16 +33,17 @@ const MOST: usize = 1_048_576;
 #[derive(Debug, Default)]
 struct Tally {
     calls: [AtomicU64; CALL_NUMBERS],
-    /// Path points, cuts, back-steps and jumps.
-    counts: [AtomicU64; 4],
+    /// Path points, cuts, back-steps, jumps and touches.
+    counts: [AtomicU64; 5],
     met: Met,
+    seen: Seen,
 }
 
 /// The call does not give the last of the numbers, 7.
 const CALL_NUMBERS: usize = NUMBERS.len() - 1;
 
 impl Tally {
-    fn count(&self, due: &[u32; 6]) {
+    fn count(&self, due: &[u32; 7]) {
         let [number, _, counts @ ..] = due;
         self.calls[rule::place_of(*number)].fetch_add(1, Ordering::Relaxed);
         for (sum, &count) in self.counts.iter().zip(counts) {
@@ -58,9 +60,10 @@ impl Tally {
         row(&NUMBERS.map(|number| number.to_string())[..CALL_NUMBERS]);
         row(&calls.map(|calls| calls.to_string()));
         let counts = self.counts.each_ref().map(|n| n.load(Ordering::Relaxed));
-        let [points, cuts, back_steps, jumps] = counts;
+        let [points, cuts, back_steps, jumps, touches] = counts;
         println!(
-            "in results: {points} path points, {cuts} cuts, {back_steps} back-steps, {jumps} jumps"
+            "in results: {points} path points, {cuts} cuts, {back_steps} back-steps, {jumps} \
+             jumps, {touches} touches"
         );
     }
 }
@@ -86,7 +89,8 @@ pub fn run(plan: Plan) -> bool {
         sound(&large_plate(large, random), Inside, MOST, &tally, 2, random)
     });
     tally.print();
-    tally.met.print(of_kinds) && same
+    let [layers, touches] = [tally.met.print(of_kinds), tally.seen.print(of_kinds)];
+    layers && touches && same
 }
 
 /// Compares one plate of a run: the kind by its number, and the plate's own seed.
@@ -142,6 +146,31 @@ impl Slices {
     fn room(self) -> usize {
         rule::retrace_room(self.path, self.marks)
     }
+
+    /// The same with one number less of work, or of either work.
+    fn short_of_work(self) -> [Self; 3] {
+        let [work, distances] = [self.work - 1, self.distances.saturating_sub(1)];
+        [Self { work, ..self }, Self { distances, ..self }, Self { work, distances, ..self }]
+    }
+}
+
+/// The slices themselves.
+struct LentSlices {
+    path: Lent<f64>,
+    marks: Lent<u32>,
+    work: Lent<u32>,
+    distances: Lent<f64>,
+}
+
+impl LentSlices {
+    fn random(slices: Slices, random: &mut Random) -> Self {
+        Self {
+            path: Lent::random(slices.path, random),
+            marks: Lent::random(slices.marks, random),
+            work: Lent::random(slices.work, random),
+            distances: Lent::random(slices.distances, random),
+        }
+    }
 }
 
 /// A plate as it is: results, and refusals 5 and 6. At most `most` calls are made beside those
@@ -160,12 +189,10 @@ fn sound(
     };
     let exact = case.enough(2 * marks.len(), 2 * marks.len());
     case.retrace(exact, random)?;
-    let short = [
-        Slices { work: exact.work - 1, ..exact },
-        Slices { distances: exact.distances.saturating_sub(1), ..exact },
-        Slices { work: exact.work - 1, distances: exact.distances.saturating_sub(1), ..exact },
-    ];
-    for slices in short.into_iter().take(most) {
+    for room in around_a_touch(marks, random) {
+        case.retrace(case.enough(2 * room, 2 * room), random)?;
+    }
+    for slices in exact.short_of_work().into_iter().take(most) {
         case.retrace(slices, random)?;
     }
     let mut rooms = rooms(marks.len(), random);
@@ -183,6 +210,17 @@ fn sound(
         case.retrace(case.enough(2 * MOST + 9, 2 * MOST + 6), random)?;
     }
     case.wrapper()
+}
+
+/// Numbers of path points of which the last, or else the next, is a touch, and more follow.
+fn around_a_touch(marks: &[[u32; 2]], random: &mut Random) -> Vec<usize> {
+    let is_touch = |place: &usize| marks[*place][0] == rule::retrace::TOUCH;
+    let touches: Vec<usize> = (0..marks.len()).filter(is_touch).collect();
+    if touches.is_empty() {
+        return Vec::new();
+    }
+    let touch = random.pick(&touches);
+    [touch, touch + 1].into_iter().filter(|&room| room < marks.len()).collect()
 }
 
 /// Lengths of path and marks slices around those of a result of `count` points.
@@ -244,6 +282,9 @@ fn handed<'a>(
         let held = due.as_ref().map(|retrace| retrace.held);
         tally.met.plate(plate, strategy, held.map_err(|&refused| refused));
     }
+    if let Ok(Ok(due)) = &due {
+        tally.seen.path(plate, due);
+    }
     Case::new(plate, strategy, tally, due, random)
 }
 
@@ -277,15 +318,27 @@ impl Case<'_> {
         let (due, written) =
             rule::retrace_outcome(result, &self.plate.lengths, slices.room(), work, distances);
         self.tally.count(&due);
-        if due[0] == rule::BAD_LAYER {
-            self.tally.met.lent(self.plate, distances, slices.room());
+        match (due[0], &self.due) {
+            (rule::BAD_LAYER, _) => self.tally.met.lent(self.plate, distances, slices.room()),
+            (6, Ok(due)) => self.tally.seen.full(due, written),
+            _ => {}
         }
         let name =
             format!("call, lent slices of {path} and {marks}, and work of {work} and {distances}");
-        let mut path = Lent::random(path, random);
-        let mut marks = Lent::random(marks, random);
-        let mut work = Lent::random(work, random);
-        let mut distances = Lent::random(distances, random);
+        let mut lent = LentSlices::random(slices, random);
+        let is = self.called(&mut lent);
+        self.same("number, place and counts", &name, &is, &due)?;
+        self.left(&name, &lent, is[0], written)?;
+        let [0, _, points, cuts, back_steps, jumps, touches] = is else {
+            return Ok(());
+        };
+        let counts = Counts { points, cuts, back_steps, jumps, touches };
+        self.checked(lent.path.slice(), lent.marks.slice(), counts)
+            .map_err(|broken| self.described(&format!("{name}: {broken}")))
+    }
+
+    /// The library's answer.
+    fn called(&self, lent: &mut LentSlices) -> [u32; 7] {
         let result = c::retrace(
             self.points.slice(),
             self.lengths.slice(),
@@ -293,32 +346,36 @@ impl Case<'_> {
             self.plate.size.width,
             self.plate.size.height,
             self.strategy == Inside,
-            path.slice_mut(),
-            marks.slice_mut(),
-            work.slice_mut(),
-            distances.slice_mut(),
+            lent.path.slice_mut(),
+            lent.marks.slice_mut(),
+            lent.work.slice_mut(),
+            lent.distances.slice_mut(),
         );
-        let c::RetraceResult { number, place, points, cuts, back_steps, jumps } = result;
-        let is = [number, place, points, cuts, back_steps, jumps];
-        self.same("number, place and counts", &name, &is, &due)?;
+        let c::RetraceResult { number, place, points, cuts, back_steps, jumps, touches } = result;
+        [number, place, points, cuts, back_steps, jumps, touches]
+    }
+
+    /// What the call that gave this number left of all slices. That many path points are due.
+    fn left(
+        &self,
+        name: &str,
+        lent: &LentSlices,
+        number: u32,
+        written: usize,
+    ) -> Result<(), String> {
+        let LentSlices { path, marks, work, distances } = lent;
         let (path_due, marks_due): (&[_], &[_]) = match &self.due {
             Ok(due) => (&due.path[..written], &due.marks[..written]),
             Err(_) => (&[], &[]),
         };
-        self.holds("path slice", &name, path.difference(path_due))?;
-        self.holds("marks slice", &name, marks.difference(marks_due))?;
+        self.holds("path slice", name, path.difference(path_due))?;
+        self.holds("marks slice", name, marks.difference(marks_due))?;
         let free = number == 0 || number == 6;
         let altered = if free { work.margins_altered() } else { work.altered() };
-        self.holds("work", &name, altered)?;
+        self.holds("work", name, altered)?;
         let altered = if free { distances.margins_altered() } else { distances.altered() };
-        self.holds("distances", &name, altered)?;
-        self.inputs_kept(&name)?;
-        if number == 0 {
-            let counts = Counts { points, cuts, back_steps, jumps };
-            self.checked(path.slice(), marks.slice(), counts)
-                .map_err(|broken| self.described(&format!("{name}: {broken}")))?;
-        }
-        Ok(())
+        self.holds("distances", name, altered)?;
+        self.inputs_kept(name)
     }
 
     /// What the checker says of a result.
@@ -359,30 +416,42 @@ impl Case<'_> {
         };
         self.same("refusal", NAME, &refused, &due)?;
         if let (Ok(is), Ok(due)) = (outcome, &self.due) {
-            let bits = |path: &[[f64; 2]]| -> Vec<[u64; 2]> {
-                path.iter().map(|point| point.map(f64::to_bits)).collect()
-            };
-            let path: Vec<[f64; 2]> = is.points().iter().map(|p| [p.x, p.y]).collect();
-            self.same("path", NAME, &bits(&path), &bits(&due.path))?;
-            let marks: Vec<[u32; 2]> = is.marks().iter().map(|mark| mark.numbers()).collect();
-            self.same("marks", NAME, &marks, &due.marks)?;
-            let pairs = is.pairs().map(|pair| match pair.kind {
-                PairKind::Cut { segment } => [rule::retrace::CUT, segment],
-                PairKind::BackStep { reversed } => [rule::retrace::BACK_STEP, reversed],
-                PairKind::Jump { vertex } => [rule::retrace::JUMP, vertex],
-            });
-            let of_pairs: Vec<[u32; 2]> = pairs.collect();
-            self.same("pairs", NAME, &&of_pairs[..], &due.marks.get(1..).unwrap_or(&[]))?;
-            let ends: Vec<[f64; 2]> = is.pairs().map(|pair| [pair.to.x, pair.to.y]).collect();
-            self.same("pairs", NAME, &bits(&ends), &bits(due.path.get(1..).unwrap_or(&[])))?;
-            let starts: Vec<[f64; 2]> = is.pairs().map(|p| [p.from.x, p.from.y]).collect();
-            let but_last = &due.path[..due.path.len().saturating_sub(1)];
-            self.same("pairs", NAME, &bits(&starts), &bits(but_last))?;
-            let start = is.start().map(|(point, vertex)| ([point.x, point.y], vertex));
-            let first = due.path.first().zip(due.marks.first());
-            self.same("start", NAME, &start, &first.map(|(point, mark)| (*point, mark[1])))?;
+            self.same_path(NAME, &is, due)?;
         }
         self.inputs_kept(NAME)
+    }
+
+    /// Whether the safe interface gives what is due, in each of its forms.
+    fn same_path(&self, name: &str, is: &MarkedPath, due: &Retrace) -> Result<(), String> {
+        let bits = |path: &[[f64; 2]]| -> Vec<[u64; 2]> {
+            path.iter().map(|point| point.map(f64::to_bits)).collect()
+        };
+        let path: Vec<[f64; 2]> = is.points().iter().map(|p| [p.x, p.y]).collect();
+        self.same("path", name, &bits(&path), &bits(&due.path))?;
+        let marks: Vec<[u32; 2]> = is.marks().iter().map(|mark| mark.numbers()).collect();
+        self.same("marks", name, &marks, &due.marks)?;
+        let twillharbor::Counts { points, cuts, back_steps, jumps, touches } = is.counts();
+        let counts = [points, cuts, back_steps, jumps, touches].map(|count| count as u32);
+        let room = due.marks.len();
+        let ([_, _, counts_due @ ..], _) =
+            rule::retrace_outcome(Ok(due), &self.plate.lengths, room, usize::MAX, usize::MAX);
+        self.same("counts", name, &counts, &counts_due)?;
+        let pairs = is.pairs().map(|pair| match pair.kind {
+            PairKind::Cut { segment } => [rule::retrace::CUT, segment],
+            PairKind::BackStep { reversed } => [rule::retrace::BACK_STEP, reversed],
+            PairKind::Jump { vertex } => [rule::retrace::JUMP, vertex],
+            PairKind::Touch { vertex } => [rule::retrace::TOUCH, vertex],
+        });
+        let of_pairs: Vec<[u32; 2]> = pairs.collect();
+        self.same("pairs", name, &&of_pairs[..], &due.marks.get(1..).unwrap_or(&[]))?;
+        let ends: Vec<[f64; 2]> = is.pairs().map(|pair| [pair.to.x, pair.to.y]).collect();
+        self.same("pairs", name, &bits(&ends), &bits(due.path.get(1..).unwrap_or(&[])))?;
+        let starts: Vec<[f64; 2]> = is.pairs().map(|p| [p.from.x, p.from.y]).collect();
+        let but_last = &due.path[..due.path.len().saturating_sub(1)];
+        self.same("pairs", name, &bits(&starts), &bits(but_last))?;
+        let start = is.start().map(|(point, vertex)| ([point.x, point.y], vertex));
+        let first = due.path.first().zip(due.marks.first());
+        self.same("start", name, &start, &first.map(|(point, mark)| (*point, mark[1])))
     }
 }
 
@@ -391,9 +460,15 @@ mod tests {
     use std::sync::atomic::Ordering;
 
     use harness::random::Random;
+    use twillharbor::StartPointStrategy::Inside;
 
     use super::{Tally, compare};
+    use crate::checker::{self, Claim, Counts};
+    use crate::meeting::{self, MEETINGS};
+    use crate::plates::Plate;
+    use crate::reference::retrace;
     use crate::retrace_plates::KINDS;
+    use crate::rule::Retrace;
 
     #[test]
     fn every_kind_agrees_and_every_refusal_is_due() {
@@ -408,5 +483,51 @@ mod tests {
             let calls = calls.load(Ordering::Relaxed);
             assert!(calls > 50, "{calls} calls, where {number} is due");
         }
+    }
+
+    /// What the checker says of a path with these marks, correctly counted.
+    fn checked(plate: &Plate, due: &Retrace, marks: &[[u32; 2]]) -> Result<(), checker::Broken> {
+        let marked = |of| marks.iter().filter(|[kind, _]| *kind == of).count() as u32;
+        let [cuts, back_steps, jumps, touches] = [1, 2, 3, 4].map(marked);
+        let counts = Counts { points: marks.len() as u32, cuts, back_steps, jumps, touches };
+        let Plate { points, lengths, layers, .. } = plate;
+        checker::check(&Claim { points, lengths, layers, path: &due.path, marks, counts })
+    }
+
+    /// Each mark of the path is changed to each other kind, and the checker refuses that: a touch
+    /// that becomes a jump, or a jump that becomes a touch, by its own rule and in its place. How
+    /// many there were of these.
+    fn exchanged(plate: &Plate, due: &Retrace) -> [u32; 2] {
+        let mut exchanged = [0; 2];
+        let changes = (0..due.marks.len()).flat_map(|place| (0..6).map(move |to| (place, to)));
+        for (place, kind) in changes.filter(|&(place, kind)| kind != due.marks[place][0]) {
+            let mut marks = due.marks.clone();
+            marks[place][0] = kind;
+            let broken = checked(plate, due, &marks).expect_err("it passed");
+            let (which, rule) = match (due.marks[place][0], kind) {
+                (4, 3) => (0, checker::Rule::JumpLeavesAnother),
+                (3, 4) => (1, checker::Rule::TouchLeavesAnEqual),
+                _ => continue,
+            };
+            assert_eq!((broken.rule, broken.place), (rule, place));
+            exchanged[which] += 1;
+        }
+        exchanged
+    }
+
+    #[test]
+    fn the_checker_refuses_another_kind_of_any_mark() {
+        let mut random = Random::new(3);
+        let mut sums = [0; 2];
+        for meeting in MEETINGS.into_iter().flat_map(|(meeting, _)| [meeting; 20]) {
+            let plate = meeting::plate(meeting, &mut random);
+            let due = retrace(&plate, Inside, 120).unwrap().unwrap();
+            if due.whole {
+                assert_eq!(checked(&plate, &due, &due.marks), Ok(()));
+                let [to_jumps, to_touches] = exchanged(&plate, &due);
+                sums = [sums[0] + to_jumps, sums[1] + to_touches];
+            }
+        }
+        assert!(sums.iter().all(|&entries| entries > 200), "{sums:?}");
     }
 }

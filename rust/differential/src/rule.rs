@@ -114,16 +114,16 @@ pub struct Retrace {
 }
 
 /// Refusals 5 and 6 of the retrace call, lent work slices of these lengths: the answer's
-/// number, place, points, cuts, back-steps and jumps, and how many path points it writes. The
-/// room is at most as large as the beginning of a path that is not whole.
+/// number, place, points, cuts, back-steps, jumps and touches, and how many path points it
+/// writes. The room is at most as large as the beginning of a path that is not whole.
 pub fn retrace_outcome(
     result: Result<&Retrace, Refused>,
     lengths: &[u32],
     room: usize,
     work: usize,
     distances: usize,
-) -> ([u32; 6], usize) {
-    let refused = |number, place| ([number, place, 0, 0, 0, 0], 0);
+) -> ([u32; 7], usize) {
+    let refused = |number, place| ([number, place, 0, 0, 0, 0, 0], 0);
     let Retrace { marks, whole, .. } = match result {
         Err((number, place)) => return refused(number, place),
         Ok(retrace) => retrace,
@@ -136,12 +136,14 @@ pub fn retrace_outcome(
     } else if distances < lengths.len() {
         refused(5, 1)
     } else if marks.len() > room || !whole {
-        ([6, room as u32, 0, 0, 0, 0], room)
+        ([6, room as u32, 0, 0, 0, 0, 0], room)
     } else {
-        let back_steps = marks.iter().filter(|[kind, _]| *kind == retrace::BACK_STEP).count();
-        let counts = [marks.len(), points - contours, back_steps, contours.saturating_sub(1)];
-        let [points, cuts, back_steps, jumps] = counts.map(|count| count as u32);
-        ([0, 0, points, cuts, back_steps, jumps], marks.len())
+        let marked = |of| marks.iter().filter(|[kind, _]| *kind == of).count();
+        let [back_steps, touches] = [retrace::BACK_STEP, retrace::TOUCH].map(marked);
+        let jumps = contours.saturating_sub(1) - touches;
+        let counts = [marks.len(), points - contours, back_steps, jumps, touches];
+        let [points, cuts, back_steps, jumps, touches] = counts.map(|count| count as u32);
+        ([0, 0, points, cuts, back_steps, jumps, touches], marks.len())
     }
 }
 
@@ -279,7 +281,7 @@ pub fn straight(points: &[f64], lengths: &[u32], order: &[[u32; 2]]) -> Vec<[f64
 #[cfg(test)]
 mod tests {
     use super::{
-        Held, Plate, Refused, Retrace, checked, held_at_start, order, order_room, outcome,
+        Held, Plate, Refused, Retrace, checked, held_at_start, order, order_room, outcome, retrace,
         retrace_outcome, retrace_room, straight_room,
     };
     use twillharbor::Size;
@@ -402,15 +404,18 @@ mod tests {
             retrace_outcome(Ok(e), &[3, 0, 1], room, work, distances)
         };
         let enough = 4 * 4 + 8 * 3 + 16_384;
-        assert_eq!(outcome(&e, 6, enough + 6, 3), ([0, 0, 6, 2, 2, 1], 6));
-        assert_eq!(outcome(&e, 9, enough + 9, 9), ([0, 0, 6, 2, 2, 1], 6));
-        assert_eq!(outcome(&e, 5, enough + 5, 3), ([6, 5, 0, 0, 0, 0], 5));
-        assert_eq!(outcome(&e, 5, enough + 5, 2), ([5, 1, 0, 0, 0, 0], 0));
-        assert_eq!(outcome(&e, 5, enough + 4, 2), ([5, 0, 0, 0, 0, 0], 0));
+        assert_eq!(outcome(&e, 6, enough + 6, 3), ([0, 0, 6, 2, 2, 1, 0], 6));
+        assert_eq!(outcome(&e, 9, enough + 9, 9), ([0, 0, 6, 2, 2, 1, 0], 6));
+        assert_eq!(outcome(&e, 5, enough + 5, 3), ([6, 5, 0, 0, 0, 0, 0], 5));
+        assert_eq!(outcome(&e, 5, enough + 5, 2), ([5, 1, 0, 0, 0, 0, 0], 0));
+        assert_eq!(outcome(&e, 5, enough + 4, 2), ([5, 0, 0, 0, 0, 0, 0], 0));
+        let mut touching = e.clone();
+        touching.marks[5] = [retrace::TOUCH, 3];
+        assert_eq!(outcome(&touching, 6, enough + 6, 3), ([0, 0, 6, 2, 2, 0, 1], 6));
         let beginning = Retrace { whole: false, ..e };
-        assert_eq!(outcome(&beginning, 6, enough + 6, 3), ([6, 6, 0, 0, 0, 0], 6));
+        assert_eq!(outcome(&beginning, 6, enough + 6, 3), ([6, 6, 0, 0, 0, 0, 0], 6));
         let blank = Retrace { path: vec![], marks: vec![], whole: true, held };
-        assert_eq!(retrace_outcome(Ok(&blank), &[0], 0, 16_392, 1), ([0; 6], 0));
-        assert_eq!(retrace_outcome(Err((4, 7)), &[1], 0, 0, 0), ([4, 7, 0, 0, 0, 0], 0));
+        assert_eq!(retrace_outcome(Ok(&blank), &[0], 0, 16_392, 1), ([0; 7], 0));
+        assert_eq!(retrace_outcome(Err((4, 7)), &[1], 0, 0, 0), ([4, 7, 0, 0, 0, 0, 0], 0));
     }
 }

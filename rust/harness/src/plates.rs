@@ -9,6 +9,13 @@ pub fn rows(contours: usize, points: usize, per_row: usize) -> (Vec<f64>, Vec<u3
     (coordinates.collect(), vec![points as u32; contours])
 }
 
+/// The same with contours that start where the one before in the row ends.
+#[must_use]
+pub fn touching_rows(contours: usize, points: usize, per_row: usize) -> (Vec<f64>, Vec<u32>) {
+    let coordinates = (0..contours).flat_map(|number| apart(0, number, points, per_row)).flatten();
+    (coordinates.collect(), vec![points as u32; contours])
+}
+
 /// Layers for that many contours: the sixteen one after the other, each for as many contours as
 /// the others or one less, from the highest to the lowest.
 #[must_use]
@@ -20,7 +27,17 @@ pub fn falling_layers(contours: usize) -> Vec<u32> {
 /// The points of one contour there: from (0,0) row by row, points 1 apart along x, contours
 /// 5 apart end to start, rows 10 apart.
 pub fn in_rows(number: usize, points: usize, per_row: usize) -> impl Iterator<Item = [f64; 2]> {
-    let x = number % per_row * (points.saturating_sub(1) + 5);
+    apart(5, number, points, per_row)
+}
+
+/// The same, contours as far apart as is said.
+fn apart(
+    gap: usize,
+    number: usize,
+    points: usize,
+    per_row: usize,
+) -> impl Iterator<Item = [f64; 2]> {
+    let x = number % per_row * (points.saturating_sub(1) + gap);
     let y = number / per_row * 10;
     (x..x + points).map(move |x| [x as f64, y as f64])
 }
@@ -44,7 +61,7 @@ pub fn polylines(points: &[f64], lengths: &[u32]) -> Vec<Polyline> {
 
 #[cfg(test)]
 mod tests {
-    use super::{falling_layers, polylines, rows};
+    use super::{falling_layers, polylines, rows, touching_rows};
 
     #[test]
     fn rows_lie_as_ticket_10_says() {
@@ -53,6 +70,15 @@ mod tests {
         let firsts: Vec<[f64; 2]> = points.chunks(6).map(|c| [c[0], c[1]]).collect();
         assert_eq!(firsts, [[0.0, 0.0], [7.0, 0.0], [0.0, 10.0], [7.0, 10.0], [0.0, 20.0]]);
         assert_eq!(points[..6], [0.0, 0.0, 1.0, 0.0, 2.0, 0.0]);
+    }
+
+    #[test]
+    fn touching_rows_have_their_ends_in_common() {
+        let (points, lengths) = touching_rows(4, 3, 3);
+        assert_eq!(lengths, [3; 4]);
+        let ends: Vec<[f64; 4]> = points.chunks(6).map(|c| [c[0], c[1], c[4], c[5]]).collect();
+        let row = [[0.0, 0.0, 2.0, 0.0], [2.0, 0.0, 4.0, 0.0], [4.0, 0.0, 6.0, 0.0]];
+        assert_eq!(ends, [&row[..], &[[0.0, 10.0, 2.0, 10.0]]].concat());
     }
 
     #[test]

@@ -12,10 +12,10 @@ pub struct Joined {
     pub is_layered: bool,
     pub path: MarkedPath,
     pairs: Vec<Pair>,
-    /// The vertex of each path point: a start's or jump's is the one named, a cut's the end of
-    /// its segment that the point before does not have, a back-step's that of path point k.
+    /// The vertex of each path point: a start's, jump's or touch's is the one named, a cut's the
+    /// end of its segment that the point before does not have, a back-step's that of path point k.
     visited: Vec<u32>,
-    /// For each pair the cut or jump that it is, or that it goes back over.
+    /// For each pair the cut, jump or touch that it is, or that it goes back over.
     grooves: Vec<usize>,
     /// For each vertex of the plate the contour that it is of and its number within it.
     vertices: Vec<(usize, usize)>,
@@ -33,7 +33,7 @@ pub struct Told {
     pub from: (usize, usize),
     /// Contour and vertex that are reached.
     pub to: (usize, usize),
-    /// The cut or jump that the pair is, or that it goes back over.
+    /// The cut, jump or touch that the pair is, or that it goes back over.
     pub groove: usize,
 }
 
@@ -43,7 +43,7 @@ impl Joined {
         let mut visited: Vec<u32> = Vec::with_capacity(path.marks().len());
         for mark in path.marks() {
             visited.push(match *mark {
-                Mark::Start { vertex } | Mark::Jump { vertex } => vertex,
+                Mark::Start { vertex } | Mark::Jump { vertex } | Mark::Touch { vertex } => vertex,
                 Mark::Cut { segment } if visited.last() == Some(&segment) => segment + 1,
                 Mark::Cut { segment } => segment,
                 Mark::BackStep { reversed } => visited[reversed as usize],
@@ -54,7 +54,7 @@ impl Joined {
         for (before, pair) in pairs.iter().enumerate() {
             grooves.push(match pair.kind {
                 PairKind::BackStep { reversed } => grooves[reversed as usize],
-                PairKind::Cut { .. } | PairKind::Jump { .. } => before + 1,
+                PairKind::Cut { .. } | PairKind::Jump { .. } | PairKind::Touch { .. } => before + 1,
             });
         }
         Self { is_layered: plate.is_layered(), plate, path, pairs, visited, grooves, vertices }
@@ -70,13 +70,13 @@ impl Joined {
         &self.pairs[number - 1]
     }
 
-    /// The number of the cut or jump that a pair is, or that it goes back over.
+    /// The number of the cut, jump or touch that a pair is, or that it goes back over.
     pub fn groove(&self, number: usize) -> usize {
         self.grooves[number - 1]
     }
 
-    /// `start`, `cut`, `back-step` or `jump`: how the path comes to a point, which is what the
-    /// pair of that number is.
+    /// `start`, `cut`, `back-step`, `jump` or `touch`: how the path comes to a point, which is what
+    /// the pair of that number is.
     pub fn kind(&self, path_point: usize) -> &'static str {
         words::kind(self.path.marks()[path_point])
     }
@@ -91,8 +91,8 @@ impl Joined {
         self.vertices[vertex as usize]
     }
 
-    /// The layer of the contour whose groove a pair is or goes back over; a jump's is that of the
-    /// contour that it lands on, and so is that of number 0, the start.
+    /// The layer of the contour whose groove a pair is or goes back over; a jump's or touch's is
+    /// that of the contour that it lands on, and so is that of number 0, the start.
     pub fn layer(&self, number: usize) -> u32 {
         let groove = if number == 0 { 0 } else { self.groove(number) };
         let (contour, _) = self.locate(self.vertex(groove));

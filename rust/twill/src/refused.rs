@@ -96,7 +96,8 @@ fn full(plate: &Handed, capacity: usize) -> String {
     let (marks, _) = marks.as_chunks();
     let marks: Vec<Mark> = marks.iter().filter_map(|&numbers| Mark::of(numbers)).collect();
     let back_steps = marks.iter().filter(|mark| matches!(mark, Mark::BackStep { .. })).count();
-    let is_landing = |mark: &&Mark| matches!(mark, Mark::Start { .. } | Mark::Jump { .. });
+    let is_landing =
+        |mark: &&Mark| matches!(mark, Mark::Start { .. } | Mark::Jump { .. } | Mark::Touch { .. });
     let entered = marks.iter().filter(is_landing).count();
     let held = plate.lengths.iter().filter(|&&length| length > 0).count();
     format!(

@@ -6,12 +6,14 @@
 //! N cut FROM -> TO length L contour C segment J [reversed]
 //! N back-step FROM -> TO length L reverses pair K over cut G contour C segment J
 //! N back-step FROM -> TO length L reverses pair K over jump G contour C vertex V
+//! N back-step FROM -> TO length 0 reverses pair K over touch G contour C vertex V
 //! N jump FROM -> TO length L contour C vertex V to contour D vertex W
+//! N touch FROM -> TO length 0 contour C vertex V to contour D vertex W
 //! ```
 //!
 //! FROM and TO are points as `(x,y)`. A reversed cut goes from vertex J + 1 to vertex J. G is the
-//! cut or jump that first made the groove that is gone back over, which is K if pair K is one;
-//! of a jump the vertex that it lands on is named. The start, before all pairs, is
+//! cut, jump or touch that is gone back over, which is K if pair K is one; of a jump or touch the
+//! vertex that it lands on is named. The start, before all pairs, is
 //! `0 start AT on contour C vertex V`. Where the plate has layers, each line ends in `layer N`.
 
 use crate::joined::{Joined, Told};
@@ -25,7 +27,7 @@ pub fn line(joined: &Joined, told: &Told) -> String {
     let length = number::show(told.length);
     let verb = match told.pair.kind {
         PairKind::BackStep { .. } => "reverses ",
-        PairKind::Cut { .. } | PairKind::Jump { .. } => "",
+        PairKind::Cut { .. } | PairKind::Jump { .. } | PairKind::Touch { .. } => "",
     };
     let (number, kind, what) = (told.number, joined.kind(told.number), what(joined, told));
     let layer = layer(joined, number);
@@ -53,6 +55,7 @@ pub fn details(joined: &Joined, told: &Told) -> Vec<(&'static str, String)> {
         PairKind::Cut { .. } => "cuts",
         PairKind::BackStep { .. } => "reverses",
         PairKind::Jump { .. } => "jumps",
+        PairKind::Touch { .. } => "touches",
     };
     let (left, reached) = (joined.vertex(told.number - 1), joined.vertex(told.number));
     let (from, to) = (place(told.from), place(told.to));
@@ -90,7 +93,7 @@ pub fn start_details(joined: &Joined) -> Vec<(&'static str, String)> {
     details
 }
 
-/// What is cut, gone back over, or jumped between.
+/// What is cut, gone back over, or jumped or touched between.
 fn what(joined: &Joined, told: &Told) -> String {
     match told.pair.kind {
         PairKind::Cut { .. } if told.to.1 < told.from.1 => {
@@ -103,7 +106,9 @@ fn what(joined: &Joined, told: &Told) -> String {
             let first = named(joined, joined.pair(groove).kind);
             format!("{reversed} over {kind} {groove} {first}")
         }
-        PairKind::Jump { .. } => format!("{} to {}", place(told.from), place(told.to)),
+        PairKind::Jump { .. } | PairKind::Touch { .. } => {
+            format!("{} to {}", place(told.from), place(told.to))
+        }
     }
 }
 
@@ -115,7 +120,7 @@ fn named(joined: &Joined, kind: PairKind) -> String {
             format!("contour {contour} segment {segment}")
         }
         PairKind::BackStep { reversed } => format!("pair {}", u64::from(reversed) + 1),
-        PairKind::Jump { vertex } => place(joined.locate(vertex)),
+        PairKind::Jump { vertex } | PairKind::Touch { vertex } => place(joined.locate(vertex)),
     }
 }
 
@@ -154,6 +159,11 @@ pub mod tests {
     /// Plate E of document 01.
     pub fn plate_e() -> Joined {
         joined(&[&[(0.0, 0.0), (4.0, 0.0), (8.0, 0.0)], &[(0.0, 1.0)]], 0, 0)
+    }
+
+    /// Two lines that meet where the first begins, at 0 and -0, and a point beside the second's end.
+    pub fn touching() -> Joined {
+        joined(&[&[(0.0, 0.0), (4.0, 0.0)], &[(-0.0, 0.0), (0.0, 4.0)], &[(0.0, 5.0)]], 0, 0)
     }
 
     fn lines(joined: &Joined) -> Vec<String> {
@@ -217,6 +227,49 @@ pub mod tests {
         let expected =
             "2 back-step (1,0) -> (0,0) length 1 reverses pair 1 over jump 1 contour 1 vertex 0";
         assert_eq!(lines(&plate)[2], expected);
+    }
+
+    #[test]
+    fn a_touch_is_told_as_a_jump_is() {
+        let plate = touching();
+        let expected = [
+            "0 start (0,0) on contour 0 vertex 0",
+            "1 cut (0,0) -> (4,0) length 4 contour 0 segment 0",
+            "2 back-step (4,0) -> (0,0) length 4 reverses pair 1 over cut 1 contour 0 segment 0",
+            "3 touch (0,0) -> (-0,0) length 0 contour 0 vertex 0 to contour 1 vertex 0",
+            "4 cut (-0,0) -> (0,4) length 4 contour 1 segment 0",
+            "5 jump (0,4) -> (0,5) length 1 contour 1 vertex 1 to contour 2 vertex 0",
+        ];
+        assert_eq!(lines(&plate), expected);
+        let told = details(&plate, &plate.tell(3));
+        let touches = "contour 0 vertex 0 to contour 1 vertex 0";
+        assert_eq!(told[3], ("touches", touches.to_owned()));
+        assert_eq!(told[4], ("mark", "kind 4 reference 2".to_owned()));
+    }
+
+    #[test]
+    fn a_jump_may_have_length_0_and_is_no_touch() {
+        let plate = joined(&[&[(0.0, 0.0)], &[(1e-200, 0.0)]], 0, 0);
+        let expected =
+            "1 jump (0,0) -> (1e-200,0) length 0 contour 0 vertex 0 to contour 1 vertex 0";
+        assert_eq!(lines(&plate)[1], expected);
+    }
+
+    /// Three lines of which the second begins at the first's end and the third at its start.
+    #[test]
+    fn a_back_step_over_a_touch_names_where_it_landed() {
+        let bent: [&[(f64, f64)]; 3] =
+            [&[(0.0, 0.0), (4.0, 0.0)], &[(4.0, 0.0), (4.0, 4.0)], &[(0.0, 0.0), (0.0, 4.0)]];
+        let plate = layered(&bent, &[0, 0, 3], 0, 0);
+        let expected = [
+            "2 touch (4,0) -> (4,0) length 0 contour 0 vertex 1 to contour 1 vertex 0 layer 0",
+            "3 cut (4,0) -> (4,4) length 4 contour 1 segment 0 layer 0",
+            "4 back-step (4,4) -> (4,0) length 4 reverses pair 3 over cut 3 contour 1 segment 0 layer 0",
+            "5 back-step (4,0) -> (4,0) length 0 reverses pair 2 over touch 2 contour 1 vertex 0 layer 0",
+            "6 back-step (4,0) -> (0,0) length 4 reverses pair 1 over cut 1 contour 0 segment 0 layer 0",
+            "7 touch (0,0) -> (0,0) length 0 contour 0 vertex 0 to contour 2 vertex 0 layer 3",
+        ];
+        assert_eq!(lines(&plate)[2..8], expected);
     }
 
     #[test]

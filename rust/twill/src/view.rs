@@ -101,6 +101,7 @@ fn data(joined: &Joined, name: &str) -> String {
         ("cuts", counts.cuts.to_string()),
         ("back_steps", counts.back_steps.to_string()),
         ("jumps", counts.jumps.to_string()),
+        ("touches", counts.touches.to_string()),
         ("contours", array(plate.lengths.iter().map(u32::to_string))),
         ("path", array(coordinates.map(number::json))),
         ("marks", array(marks.map(|m| m.to_string()))),
@@ -116,7 +117,6 @@ mod tests {
     use super::{FIRST_LINE, page};
     use crate::number;
     use crate::tell::tests::{joined, layered};
-    use twillharbor::Mark;
 
     /// The value of a member of the page's data block, as it is written there.
     fn member<'a>(page: &'a str, key: &str) -> &'a str {
@@ -140,7 +140,8 @@ mod tests {
     fn the_data_block_holds_what_the_library_gave_bit_for_bit() {
         let bent = [(0.0, -0.0), (4.0, 1.0 / 3.0), (8.0, 5e-324)];
         let (near, far) = ([(-0.0, -1e-7)], [(999_999.999_999_999_9, 1.0)]);
-        let joined = joined(&[&bent, &[], &near, &far], 8, 2);
+        let met = [(-0.0, 0.0), (0.0, 9.0)];
+        let joined = joined(&[&bent, &[], &near, &far, &met], 8, 2);
         let page = page(&joined, "plate.txt");
         let path = joined.path.points().iter().flat_map(|p| [p.x.to_bits(), p.y.to_bits()]);
         assert_eq!(bits(&page, "path"), path.collect::<Vec<_>>());
@@ -148,13 +149,16 @@ mod tests {
         assert_eq!(bits(&page, "lengths"), lengths.collect::<Vec<_>>());
         let marks = joined.path.marks().iter().flat_map(|m| m.numbers().map(|n| n.to_string()));
         assert_eq!(numbers(&page, "marks"), marks.collect::<Vec<_>>());
-        assert!(joined.path.marks().iter().any(|mark| matches!(mark, Mark::BackStep { .. })));
+        for kind in 0..5 {
+            assert!(joined.path.marks().iter().any(|mark| mark.numbers()[0] == kind), "{kind}");
+        }
         assert!(member(&page, "path").contains("-0.0,"));
-        assert_eq!(numbers(&page, "contours"), ["3", "0", "1", "1"]);
+        assert_eq!(numbers(&page, "contours"), ["3", "0", "1", "1", "2"]);
         let back_steps = joined.path.counts().back_steps.to_string();
-        let short = ["width", "height", "start", "points", "cuts", "back_steps", "jumps"];
+        let short =
+            ["width", "height", "start", "points", "cuts", "back_steps", "jumps", "touches"];
         let points = joined.path.points().len().to_string();
-        let values = ["8", "2", "\"inside\"", &points, "2", &back_steps, "2"];
+        let values = ["8", "2", "\"inside\"", &points, "3", &back_steps, "2", "1"];
         assert_eq!(short.map(|key| member(&page, key)), values);
     }
 
@@ -190,7 +194,8 @@ mod tests {
         let empty = page(&joined(&[&[], &[]], 0, 0), "empty");
         assert!(empty.starts_with(FIRST_LINE));
         assert_eq!((member(&empty, "path"), member(&empty, "marks")), ("[]", "[]"));
-        assert_eq!((member(&empty, "points"), member(&empty, "jumps")), ("0", "0"));
+        let counts = ["points", "cuts", "back_steps", "jumps", "touches"];
+        assert_eq!(counts.map(|key| member(&empty, key)), ["0"; 5]);
         let single = page(&joined(&[&[(0.5, -0.0)]], 0, 0), "single");
         assert_eq!((member(&single, "path"), member(&single, "marks")), ("[0.5,-0.0]", "[0,0]"));
         assert_eq!(member(&single, "lengths"), "[]");

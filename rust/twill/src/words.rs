@@ -10,12 +10,18 @@ pub const fn kind(mark: Mark) -> &'static str {
         Mark::Cut { .. } => "cut",
         Mark::BackStep { .. } => "back-step",
         Mark::Jump { .. } => "jump",
+        Mark::Touch { .. } => "touch",
     }
 }
 
-/// `1 jump`, `2 jumps`.
+/// `1 jump`, `2 jumps`, `2 touches`.
 pub fn count(number: usize, what: &str) -> String {
-    format!("{} {what}{}", grouped(number), if number == 1 { "" } else { "s" })
+    let ending = match number {
+        1 => "",
+        _ if what.ends_with("ch") => "es",
+        _ => "s",
+    };
+    format!("{} {what}{ending}", grouped(number))
 }
 
 /// `1,048,576`.
@@ -47,14 +53,15 @@ pub fn layer(number: u32, counts: LayerCounts) -> String {
     format!("layer {number}: {cuts}, {contours}")
 }
 
-/// `6 points: 2 cuts, 2 back-steps, 1 jump`.
+/// `6 points: 2 cuts, 2 back-steps, 1 jump, 0 touches`.
 pub fn counts(counts: Counts) -> String {
     format!(
-        "{}: {}, {}, {}",
+        "{}: {}, {}, {}, {}",
         count(counts.points, "point"),
         count(counts.cuts, "cut"),
         count(counts.back_steps, "back-step"),
-        count(counts.jumps, "jump")
+        count(counts.jumps, "jump"),
+        count(counts.touches, "touch")
     )
 }
 
@@ -84,7 +91,8 @@ mod tests {
         assert_eq!(count(1, "jump"), "1 jump");
         assert_eq!(count(999, "cut"), "999 cuts");
         assert_eq!(count(1_048_576, "point"), "1,048,576 points");
-        let of = Counts { points: 1000, cuts: 1, back_steps: 12_345, jumps: 2 };
-        assert_eq!(counts(of), "1,000 points: 1 cut, 12,345 back-steps, 2 jumps");
+        assert_eq!([0, 1, 2].map(|n| count(n, "touch")), ["0 touches", "1 touch", "2 touches"]);
+        let of = Counts { points: 1000, cuts: 1, back_steps: 12_345, jumps: 2, touches: 1 };
+        assert_eq!(counts(of), "1,000 points: 1 cut, 12,345 back-steps, 2 jumps, 1 touch");
     }
 }

@@ -45,12 +45,13 @@ fn retrace_json(joined: &Joined) -> String {
         format!("[{kind},{reference}]")
     }));
     format!(
-        "{{{},\n\"points\":{},\"cuts\":{},\"back_steps\":{},\"jumps\":{},\n\"path\":{},\n\"marks\":{marks}}}\n",
+        "{{{},\n\"points\":{},\"cuts\":{},\"back_steps\":{},\"jumps\":{},\"touches\":{},\n\"path\":{},\n\"marks\":{marks}}}\n",
         head(&joined.plate),
         counts.points,
         counts.cuts,
         counts.back_steps,
         counts.jumps,
+        counts.touches,
         coordinates(joined.path.points())
     )
 }

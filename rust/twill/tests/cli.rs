@@ -91,14 +91,14 @@ fn text_and_json_of_a_retraced_path() {
     folder.put("e.json", "[[[0,0],[4,0],[8,0]],[[-0.0,0.1]]]");
     assert_eq!(
         folder.twill("retrace e.json --inside").done(),
-        "# retrace, 0 by 0, inside: 6 points: 2 cuts, 2 back-steps, 1 jump\n\
+        "# retrace, 0 by 0, inside: 6 points: 2 cuts, 2 back-steps, 1 jump, 0 touches\n\
          0 0 start 0\n4 0 cut 0\n8 0 cut 1\n4 0 back-step 1\n0 0 back-step 0\n-0 0.1 jump 3\n"
     );
     let json = folder.twill("retrace e.json --inside --format json").done();
     assert_eq!(
         json.replace('\n', ""),
         "{\"width\":0,\"height\":0,\"start\":\"inside\",\"points\":6,\"cuts\":2,\"back_steps\":2,\
-         \"jumps\":1,\"path\":[[0,0],[4,0],[8,0],[4,0],[0,0],[-0.0,0.1]],\
+         \"jumps\":1,\"touches\":0,\"path\":[[0,0],[4,0],[8,0],[4,0],[0,0],[-0.0,0.1]],\
          \"marks\":[[0,0],[1,0],[1,1],[2,1],[2,0],[3,3]]}"
     );
     let picture = folder.twill("retrace e.json --inside --format svg").done();
@@ -151,13 +151,13 @@ fn check_accepts_or_names_the_refusal() {
     assert_eq!(
         folder.twill("check good.txt").done(),
         "good.txt: accepted: 2 contours, 4 points, 8 by 2, outside\n\
-         retrace: 4 points: 2 cuts, 0 back-steps, 1 jump\n"
+         retrace: 4 points: 2 cuts, 0 back-steps, 1 jump, 0 touches\n"
     );
     folder.put("empty.txt", "empty\nempty\n");
     assert_eq!(
         folder.twill("check empty.txt").done(),
         "empty.txt: accepted: 2 contours, 0 points, 0 by 0, outside\n\
-         retrace: 0 points: 0 cuts, 0 back-steps, 0 jumps\nstart: blank (refusal 7, place 0)\n"
+         retrace: 0 points: 0 cuts, 0 back-steps, 0 jumps, 0 touches\nstart: blank (refusal 7, place 0)\n"
     );
     assert_eq!(
         folder.twill("start empty.txt").failed(1),

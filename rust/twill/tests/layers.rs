@@ -59,7 +59,7 @@ fn results_carry_layers() {
     assert_eq!(
         folder.twill("retrace a.txt").done(),
         format!(
-            "# retrace, {terms}: 6 points: 2 cuts, 1 back-step, 2 jumps\n0 0 start 0 0\n4 0 cut 0 0\n\
+            "# retrace, {terms}: 6 points: 2 cuts, 1 back-step, 2 jumps, 0 touches\n0 0 start 0 0\n4 0 cut 0 0\n\
              0 0 back-step 0 0\n0 2 jump 3 0\n4 2 cut 3 0\n4 1 jump 2 7\n"
         )
     );
@@ -154,13 +154,13 @@ fn check_tells_how_much_is_of_each_layer() {
     assert_eq!(
         folder.twill("check a.txt").done(),
         "a.txt: accepted: 4 contours, 5 points, 0 by 0, inside, layers 0 and 7\n\
-         retrace: 6 points: 2 cuts, 1 back-step, 2 jumps\n\
+         retrace: 6 points: 2 cuts, 1 back-step, 2 jumps, 0 touches\n\
          layer 0: 2 cuts, 2 contours\nlayer 7: 0 cuts, 1 contour\n"
     );
     assert_eq!(
         folder.twill_with("check -", "layer 3\n1 2\n").done(),
         "standard input: accepted: 1 contour, 1 point, 0 by 0, outside, layer 3\n\
-         retrace: 1 point: 0 cuts, 0 back-steps, 0 jumps\n"
+         retrace: 1 point: 0 cuts, 0 back-steps, 0 jumps, 0 touches\n"
     );
 }
 
@@ -193,7 +193,7 @@ fn one_layer_alone_keeps_the_numbers_of_its_contours() {
     assert_eq!(
         folder.twill("check a.txt --layer 7").done(),
         "a.txt: accepted: 4 contours, 1 point, 0 by 0, inside, layer 7\n\
-         retrace: 1 point: 0 cuts, 0 back-steps, 0 jumps\n"
+         retrace: 1 point: 0 cuts, 0 back-steps, 0 jumps, 0 touches\n"
     );
     assert_eq!(
         folder.twill("step a.txt --layer 7").done(),
@@ -227,7 +227,7 @@ fn a_plate_of_empty_contours_has_no_layers_to_tell() {
     assert_eq!(
         folder.twill("check a.txt").done(),
         "a.txt: accepted: 2 contours, 0 points, 0 by 0, outside\n\
-         retrace: 0 points: 0 cuts, 0 back-steps, 0 jumps\nstart: blank (refusal 7, place 0)\n"
+         retrace: 0 points: 0 cuts, 0 back-steps, 0 jumps, 0 touches\nstart: blank (refusal 7, place 0)\n"
     );
     folder.put("plain.txt", "empty\nempty\n");
     for command in ["retrace", "straight", "order"] {

@@ -49,9 +49,14 @@ impl Terminal {
     /// Steps through plate E in a terminal of this size, with words before the command, such as
     /// settings of the environment.
     fn new(name: &str, size: &str, before: &str) -> Self {
+        Self::with(PLATE_E, name, size, before)
+    }
+
+    /// The same with another plate.
+    fn with(plate: &str, name: &str, size: &str, before: &str) -> Self {
         let folder = Folder::new(name);
-        folder.put("e.txt", PLATE_E);
-        let step = format!("{before} '{TWILL}' step '{}'", folder.path("e.txt").display());
+        folder.put("plate.txt", plate);
+        let step = format!("{before} '{TWILL}' step '{}'", folder.path("plate.txt").display());
         let settings = "echo settings $(stty -g).";
         let shell = format!("stty {size}; {settings}; {step}; echo status $?; {settings}");
         let mut command = Command::new("script");
@@ -156,6 +161,33 @@ fn keys_step_through_the_path() {
         "  5 ^ jump      (0,0) -> (0,1) length 1 contour 0 vertex 0 to contour 1 vertex 0",
     ];
     assert_eq!(rows[14..17], listed);
+}
+
+/// Touch, cut, back-step, touch, jump; one of the points touched is -0.
+#[test]
+fn keys_go_to_jumps_and_to_touches() {
+    let plate = "start inside\n(0,0) | (0,-0)(4,0) | (0,0) | (0,1)\n";
+    let mut terminal = Terminal::with(plate, "touches", "cols 80 rows 24", "NO_COLOR=1");
+    terminal.wait("pair 1 of 5  + touch");
+    for (keys, heading) in [
+        ("j", "pair 5 of 5  ^ jump"),
+        ("T", "pair 4 of 5  + touch"),
+        ("t", "No touch after this."),
+        ("?", "t next, T previous"),
+        ("x", "pair 4 of 5  + touch"),
+        ("T", "pair 1 of 5  + touch"),
+    ] {
+        terminal.press(keys, heading);
+    }
+    terminal.send("q");
+    let rows = screen(&terminal.end());
+    assert_eq!(rows[5], "touches    contour 0 vertex 0 to contour 1 vertex 0");
+    assert_eq!(rows[6], "so far     cuts 0 of 1, back-steps 0 of 1, jumps 0 of 1, touches 1 of 2");
+    let listed = [
+        "> 1 + touch     (0,0) -> (0,-0) length 0 contour 0 vertex 0 to contour 1 ..",
+        "  2 - cut       (0,-0) -> (4,0) length 4 contour 1 segment 0",
+    ];
+    assert_eq!(rows[12..14], listed);
 }
 
 #[test]

@@ -54,7 +54,7 @@ pub struct StraightResult {
 
 /// ```c
 /// struct twillharbor_retrace_result {
-///     uint32_t number, place, points, cuts, back_steps, jumps;
+///     uint32_t number, place, points, cuts, back_steps, jumps, touches;
 /// };
 /// ```
 #[repr(C)]
@@ -66,6 +66,7 @@ pub struct RetraceResult {
     pub cuts: u32,
     pub back_steps: u32,
     pub jumps: u32,
+    pub touches: u32,
 }
 
 unsafe extern "C" {
@@ -313,8 +314,8 @@ mod tests {
     /// Points, lengths and layers, and the number and place with which they are refused.
     type Refused<'a> = (&'a [f64], &'a [u32], &'a [u32], u32, u32);
 
-    fn numbers(r: RetraceResult) -> [u32; 6] {
-        [r.number, r.place, r.points, r.cuts, r.back_steps, r.jumps]
+    fn numbers(r: RetraceResult) -> [u32; 7] {
+        [r.number, r.place, r.points, r.cuts, r.back_steps, r.jumps, r.touches]
     }
 
     // The wrapper drops the other fields of a refusal, so that they are 0 is seen here alone.
@@ -364,7 +365,7 @@ mod tests {
                     &mut work,
                     &mut [],
                 );
-                assert_eq!(numbers(r), [number, place, 0, 0, 0, 0]);
+                assert_eq!(numbers(r), [number, place, 0, 0, 0, 0, 0]);
             }
         }
         let r = start(&[], &[0], &[0], 7, 9, true);
@@ -397,7 +398,7 @@ mod tests {
                 &mut work[..held],
                 &mut [8.0; 2][..distances],
             );
-            assert_eq!(numbers(r), [number, place, 0, 0, 0, 0]);
+            assert_eq!(numbers(r), [number, place, 0, 0, 0, 0, 0]);
         }
     }
 }

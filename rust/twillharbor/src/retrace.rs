@@ -26,8 +26,15 @@ pub enum Mark {
         /// goes from the coordinates of the path point after that.
         reversed: u32,
     },
-    /// To a contour that was not entered before.
+    /// To a contour that was not entered before, from a point that differs from the one landed
+    /// on.
     Jump {
+        /// The vertex that is landed on.
+        vertex: u32,
+    },
+    /// To a contour that was not entered before, from a point that equals the one landed on;
+    /// 0 and -0 are equal.
+    Touch {
         /// The vertex that is landed on.
         vertex: u32,
     },
@@ -35,7 +42,7 @@ pub enum Mark {
 
 impl Mark {
     /// The mark of two numbers of a marks slice, its kind and its reference. There is none
-    /// where the kind is above 3.
+    /// where the kind is above 4.
     #[must_use]
     pub const fn of([kind, reference]: [u32; 2]) -> Option<Self> {
         match kind {
@@ -43,6 +50,7 @@ impl Mark {
             1 => Some(Self::Cut { segment: reference }),
             2 => Some(Self::BackStep { reversed: reference }),
             3 => Some(Self::Jump { vertex: reference }),
+            4 => Some(Self::Touch { vertex: reference }),
             _ => None,
         }
     }
@@ -55,6 +63,7 @@ impl Mark {
             Self::Cut { segment } => [1, segment],
             Self::BackStep { reversed } => [2, reversed],
             Self::Jump { vertex } => [3, vertex],
+            Self::Touch { vertex } => [4, vertex],
         }
     }
 }
@@ -72,21 +81,27 @@ pub enum PairKind {
         /// The place of the earlier pair's first path point.
         reversed: u32,
     },
-    /// A jump to a contour that was not entered before.
+    /// A jump to a contour that was not entered before: the two points differ.
     Jump {
+        /// The vertex that is landed on.
+        vertex: u32,
+    },
+    /// A touch, which is a jump but for this: the two points are equal, so it scratches nothing.
+    /// 0 and -0 are equal.
+    Touch {
         /// The vertex that is landed on.
         vertex: u32,
     },
 }
 
-/// A pair of neighbouring path points: a groove.
+/// A pair of neighbouring path points: a groove, unless the two are equal.
 #[derive(Debug, Clone, Copy, PartialEq)]
 pub struct Pair {
     /// The point that is left.
     pub from: Point,
     /// The point that is reached.
     pub to: Point,
-    /// Which of the three the pair is.
+    /// Which of the four the pair is.
     pub kind: PairKind,
 }
 
@@ -99,8 +114,11 @@ pub struct Counts {
     pub cuts: usize,
     /// The steps back over earlier pairs.
     pub back_steps: usize,
-    /// One less than there are contours that hold a point; 0 where none does.
+    /// The jumps between points that differ. Jumps and touches together are one less than
+    /// there are contours that hold a point; both are 0 where none does.
     pub jumps: usize,
+    /// The jumps between points that are equal.
+    pub touches: usize,
 }
 
 /// What the retrace call gives: the path, and how it comes to each of its points.
@@ -166,6 +184,7 @@ impl MarkedPath {
                 Mark::Cut { segment } => PairKind::Cut { segment },
                 Mark::BackStep { reversed } => PairKind::BackStep { reversed },
                 Mark::Jump { vertex } => PairKind::Jump { vertex },
+                Mark::Touch { vertex } => PairKind::Touch { vertex },
                 Mark::Start { .. } => unreachable!("the first path point alone is a start"),
             };
             Pair { from, to, kind }
@@ -184,7 +203,7 @@ pub const fn retrace_work(capacity: usize, points: usize, contours: usize) -> us
 /// One path that draws the contours that hold a point. It begins with the
 /// [start](crate::start) call's contour. As long as contours wait, the one whose cached distance
 /// is least comes next: the path goes back over its own grooves to the place that a search in a
-/// grid finds for the contour's entry, jumps there and draws it, all as document 01 has it.
+/// grid finds for the contour's entry, goes over to it and draws it, all as document 01 has it.
 ///
 /// A path can be far longer than all contours together, so the slices are made longer and
 /// the call is made again until the path fits, or 1,048,576 points are not enough.
@@ -295,6 +314,7 @@ impl Plate<'_> {
             cuts: result.cuts as usize,
             back_steps: result.back_steps as usize,
             jumps: result.jumps as usize,
+            touches: result.touches as usize,
         })
     }
 }
@@ -305,19 +325,21 @@ mod tests {
 
     #[test]
     fn a_mark_is_its_two_numbers() {
-        for kind in 0..4 {
+        for kind in 0..5 {
             let numbers = [kind, 7 + kind];
             assert_eq!(Mark::of(numbers).map(Mark::numbers), Some(numbers));
         }
-        assert_eq!(Mark::of([4, 0]), None);
+        assert_eq!(Mark::of([5, 0]), None);
         assert_eq!(Mark::of([u32::MAX, 0]), None);
     }
 
     #[test]
     fn marks_that_no_path_has_do_not_pass() {
         let counts = Counts { points: 2, ..Counts::default() };
-        assert_eq!(MarkedPath::new(&[0.0; 4], &[0, 0, 3, 1], counts).pairs().len(), 1);
-        for marks in [[0, 0, 0, 1], [1, 0, 1, 0], [0, 0, 4, 1]] {
+        for kind in 1..5 {
+            assert_eq!(MarkedPath::new(&[0.0; 4], &[0, 0, kind, 1], counts).pairs().len(), 1);
+        }
+        for marks in [[0, 0, 0, 1], [1, 0, 1, 0], [4, 0, 4, 1], [0, 0, 5, 1]] {
             let outcome = std::panic::catch_unwind(|| MarkedPath::new(&[0.0; 4], &marks, counts));
             assert!(outcome.is_err(), "{marks:?} passed");
         }

@@ -1,13 +1,13 @@
-//! The retrace call through the safe interface: document 01's plates A and D to G, and every
-//! refusal.
+//! The retrace call through the safe interface: document 01's plates A and D to G, contours
+//! that touch, and every refusal.
 
 mod refused;
 
 use twillharbor::Refusal::{Full, WorkShort};
 use twillharbor::StartPointStrategy::{Inside, Outside};
 use twillharbor::{
-    Counts, Mark, PairKind, Point, Refusal, Size, StartPointStrategy, retrace, retrace_into,
-    retrace_work,
+    Counts, Mark, PairKind, Point, Refusal, Size, StartPointStrategy, distance, retrace,
+    retrace_into, retrace_work,
 };
 
 const MOST: u32 = 1_048_576;
@@ -59,6 +59,16 @@ const G: Plate = Plate {
     marks: &[0, 0, 3, 1, 2, 0, 3, 2],
 };
 
+/// Plate E with its last contour moved onto the first contour's start, and a segment longer.
+const TOUCHING: Plate = Plate {
+    points: &[0.0, 0.0, 4.0, 0.0, 8.0, 0.0, -0.0, 0.0, 0.0, 4.0],
+    lengths: &[3, 2],
+    size: Size { width: 0, height: 0 },
+    strategy: Inside,
+    path: &[0.0, 0.0, 4.0, 0.0, 8.0, 0.0, 4.0, 0.0, 0.0, 0.0, -0.0, 0.0, 0.0, 4.0],
+    marks: &[0, 0, 1, 0, 1, 1, 2, 1, 2, 0, 4, 3, 1, 3],
+};
+
 /// Slices to lend, each number of which is 7.
 struct Slices {
     path: Vec<f64>,
@@ -105,8 +115,9 @@ fn point(x: f64, y: f64) -> Point {
     Point { x, y }
 }
 
-fn assert_retraced(plate: &Plate, cuts: usize, back_steps: usize, jumps: usize) {
-    let counts = Counts { points: plate.path.len() / 2, cuts, back_steps, jumps };
+/// The numbers are those of cuts, back-steps, jumps and touches.
+fn assert_retraced(plate: &Plate, [cuts, back_steps, jumps, touches]: [usize; 4]) {
+    let counts = Counts { points: plate.path.len() / 2, cuts, back_steps, jumps, touches };
     let path = retrace(plate.points, plate.lengths, plate.size, plate.strategy).unwrap();
     let points: Vec<f64> = path.points().iter().flat_map(|p| [p.x, p.y]).collect();
     let marks: Vec<u32> = path.marks().iter().flat_map(|mark| mark.numbers()).collect();
@@ -121,6 +132,7 @@ fn assert_retraced(plate: &Plate, cuts: usize, back_steps: usize, jumps: usize) 
             PairKind::Cut { segment } => Mark::Cut { segment },
             PairKind::BackStep { reversed } => Mark::BackStep { reversed },
             PairKind::Jump { vertex } => Mark::Jump { vertex },
+            PairKind::Touch { vertex } => Mark::Touch { vertex },
         };
         assert_eq!(mark, path.marks()[place]);
     }
@@ -158,12 +170,12 @@ fn plate_a_has_an_empty_path() {
 
 #[test]
 fn plate_d_is_two_cuts_and_a_jump() {
-    assert_retraced(&D, 2, 0, 1);
+    assert_retraced(&D, [2, 0, 1, 0]);
 }
 
 #[test]
 fn plate_e_walks_back() {
-    assert_retraced(&E, 2, 2, 1);
+    assert_retraced(&E, [2, 2, 1, 0]);
 }
 
 #[test]
@@ -178,7 +190,7 @@ fn plate_e_is_cut_short_where_four_fit() {
 
 #[test]
 fn plate_f_is_entered_in_the_middle() {
-    assert_retraced(&F, 2, 1, 1);
+    assert_retraced(&F, [2, 1, 1, 0]);
     let path = retrace(F.points, F.lengths, F.size, F.strategy).unwrap();
     let pairs: Vec<_> = path.pairs().map(|pair| (pair.from, pair.to, pair.kind)).collect();
     let (low, middle) = (point(4.0, 0.0), point(4.0, 1.0));
@@ -196,7 +208,7 @@ fn plate_f_is_entered_in_the_middle() {
 
 #[test]
 fn plate_g_goes_back_to_the_start() {
-    assert_retraced(&G, 0, 1, 2);
+    assert_retraced(&G, [0, 1, 2, 0]);
 }
 
 #[test]
@@ -215,14 +227,65 @@ fn skipped_contours_have_no_vertices() {
     let path = retrace(E.points, &lengths, E.size, E.strategy).unwrap();
     let marks: Vec<u32> = path.marks().iter().flat_map(|mark| mark.numbers()).collect();
     assert_eq!(marks, E.marks);
-    assert_eq!(path.counts(), Counts { points: 6, cuts: 2, back_steps: 2, jumps: 1 });
+    assert_eq!(path.counts(), Counts { points: 6, cuts: 2, back_steps: 2, jumps: 1, touches: 0 });
 }
 
 #[test]
-fn a_jump_of_length_zero_is_a_jump() {
-    let path = retrace(&[1.0, 1.0, 1.0, 1.0], &[1, 1], Size::default(), Inside).unwrap();
-    assert_eq!(path.marks(), [Mark::Start { vertex: 0 }, Mark::Jump { vertex: 1 }]);
-    assert_eq!(path.counts(), Counts { points: 2, cuts: 0, back_steps: 0, jumps: 1 });
+fn a_touch_is_left_where_the_walk_back_ends() {
+    assert_retraced(&TOUCHING, [3, 2, 0, 1]);
+    let path =
+        retrace(TOUCHING.points, TOUCHING.lengths, TOUCHING.size, TOUCHING.strategy).unwrap();
+    let touch = path.pairs().nth(4).unwrap();
+    assert_eq!(touch.kind, PairKind::Touch { vertex: 3 });
+    assert_eq!(
+        (touch.from.x.to_bits(), touch.to.x.to_bits()),
+        (0.0_f64.to_bits(), (-0.0_f64).to_bits())
+    );
+}
+
+/// What becomes of the way from a single point to another.
+fn entered(from: Point, to: Point) -> Mark {
+    let path = retrace(&[from.x, from.y, to.x, to.y], &[1, 1], Size::default(), Inside).unwrap();
+    let [start, entry] = path.marks() else { panic!("{:?}", path.marks()) };
+    assert_eq!(*start, Mark::Start { vertex: 0 });
+    let counts = path.counts();
+    assert_eq!((counts.points, counts.jumps + counts.touches), (2, 1));
+    assert_eq!(counts.touches == 1, matches!(entry, Mark::Touch { .. }));
+    *entry
+}
+
+#[test]
+fn equal_points_touch_and_zero_equals_minus_zero() {
+    let (touch, jump) = (Mark::Touch { vertex: 1 }, Mark::Jump { vertex: 1 });
+    assert_eq!(entered(point(1.0, 1.0), point(1.0, 1.0)), touch);
+    for [ax, ay, bx, by] in [[0.0, 0.0, -0.0, 0.0], [0.0, -0.0, 0.0, 0.0], [-0.0, 0.0, 0.0, -0.0]] {
+        assert_eq!(entered(point(ax, ay), point(bx, by)), touch);
+    }
+    // One coordinate is not enough, and neither is a squared distance of 0.
+    assert_eq!(entered(point(1.0, 1.0), point(1.0, 2.0)), jump);
+    assert_eq!(entered(point(1.0, 1.0), point(2.0, 1.0)), jump);
+    assert_eq!(distance(point(0.0, 0.0), point(1e-200, 0.0)).unwrap().squared, 0.0);
+    assert_eq!(entered(point(0.0, 0.0), point(1e-200, 0.0)), jump);
+    assert_eq!(entered(point(0.0, 0.0), point(0.0, -1e-200)), jump);
+}
+
+#[test]
+fn jumps_and_touches_are_one_less_than_the_contours() {
+    let points = [0.0, 0.0, 1.0, 0.0, 1.0, -0.0, 2.0, 0.0, 5.0, 0.0, 5.0, 0.0];
+    let path = retrace(&points, &[2, 0, 2, 1, 1], Size::default(), Inside).unwrap();
+    let Counts { cuts, back_steps, jumps, touches, .. } = path.counts();
+    assert_eq!((cuts, back_steps, jumps, touches), (2, 0, 1, 2));
+    let marks: Vec<u32> = path.marks().iter().flat_map(|mark| mark.numbers()).collect();
+    assert_eq!(marks, [0, 0, 1, 0, 4, 2, 1, 2, 3, 4, 4, 5]);
+}
+
+#[test]
+fn cuts_and_back_steps_between_equal_points_stay_so() {
+    let points = [0.0, 0.0, 4.0, 0.0, 4.0, 0.0, 8.0, 0.0, 0.0, 1.0];
+    let path = retrace(&points, &[4, 1], Size::default(), Inside).unwrap();
+    let marks: Vec<u32> = path.marks().iter().flat_map(|mark| mark.numbers()).collect();
+    assert_eq!(marks, [0, 0, 1, 0, 1, 1, 1, 2, 2, 2, 2, 1, 2, 0, 3, 4]);
+    assert_eq!(path.counts().touches, 0);
 }
 
 #[test]
@@ -244,10 +307,10 @@ fn slices_grow_with_the_path() {
     let size = Size { width: 100, height: 100 };
     let (points, lengths) = scattered(60);
     let path = retrace(&points, &lengths, size, Outside).unwrap();
-    let Counts { points, cuts, back_steps, jumps } = path.counts();
+    let Counts { points, cuts, back_steps, jumps, touches } = path.counts();
     // Far more than there were slices for at first.
     assert!(points > 1_000, "{points} path points");
-    assert_eq!((points, cuts, jumps), (back_steps + 60, 0, 59));
+    assert_eq!((points, cuts, jumps, touches), (back_steps + 60, 0, 59, 0));
     assert_eq!(path.pairs().len(), points - 1);
 }
 
@@ -271,7 +334,7 @@ fn more_than_1048576_path_points_are_refused() {
 
 #[test]
 fn a_result_alters_nothing_beyond_it() {
-    for plate in [D, E, F, G] {
+    for plate in [D, E, F, G, TOUCHING] {
         let points = plate.path.len() / 2;
         for (path, marks) in [(0, 1), (1, 0), (1, 1), (4, 3), (0, 9), (9, 0)] {
             let capacity = points + path.min(marks) / 2;
@@ -293,7 +356,8 @@ fn refusal_1_above_4096_contours() {
 #[test]
 fn refusal_2_above_65536_points() {
     let all = retrace(&[1.0; 2 * 65_536], &[65_535, 1], Size::default(), Outside).unwrap();
-    assert_eq!((all.counts().cuts, all.counts().jumps), (65_534, 1));
+    let Counts { cuts, jumps, touches, .. } = all.counts();
+    assert_eq!((cuts, jumps, touches), (65_534, 0, 1));
     refused::above_65536_points(assert_refused);
 }
 
@@ -337,7 +401,7 @@ fn refusal_5_where_work_is_short() {
 
 #[test]
 fn refusal_6_leaves_the_first_that_fit() {
-    for plate in [D, E, F, G] {
+    for plate in [D, E, F, G, TOUCHING] {
         for capacity in 0..plate.path.len() / 2 {
             for (path, marks) in [(0, 0), (1, 1), (1, 8), (8, 1)] {
                 let mut slices = Slices::with_capacity(&plate, capacity);

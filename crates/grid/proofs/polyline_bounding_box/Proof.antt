@@ -4,7 +4,7 @@ use Prim.Native.Nat.{_-_, _≤_}
 use native.Mathlib.Omega.{arith}
 use lib.ListN.{length, drop}
 use lib.Ieee.{ofBits, neg, div}
-use Rattle.rules.specs.GridAndNearest.{box, boxFrom}
+use Rattle.rules.specs.Box.{box, boxFrom}
 use Rattle.grid.proofs.BoxReading.{box-step, box-end}
 use borrow.Author.Needs.{needs}
 use Rattle.grid.proofs.polyline_bounding_box.Statement.{statement}

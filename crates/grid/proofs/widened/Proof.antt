@@ -1,5 +1,5 @@
 -- `grid::widened` meets its contract. Assumes nothing.
-use Rattle.rules.specs.GridAndNearest.{widen}
+use Rattle.rules.specs.Box.{widen}
 use borrow.Author.Needs.{needs}
 use Rattle.grid.proofs.widened.Statement.{statement}
 use Rattle.grid.proofs.widened.Tie as tie

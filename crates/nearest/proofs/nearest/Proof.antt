@@ -174,8 +174,8 @@ sub-cursor :
     tie.Need-sub-cursor Inv-loop3 μ-loop3 Inv-loop2 μ-loop2 Inv-loop μ-loop Inv-rings μ-rings
 sub-cursor c = search needs
 
-point-at-requires :
-    tie.Need-point-at-requires
+path-point-requires :
+    tie.Need-path-point-requires
     Inv-loop3
     μ-loop3
     Inv-loop2
@@ -184,7 +184,7 @@ point-at-requires :
     μ-loop
     Inv-rings
     μ-rings
-point-at-requires c κs =
+path-point-requires c κs =
     let l = c .before in
     omega (arith, c .loop3-test .taken, l .loop3 .inv .walking .within, start-of (ring-of (row-of (col-of l))) .pre .0 .path-long)
 
@@ -233,7 +233,7 @@ loop3-again c =
     let b = start-of (ring-of (row-of (col-of l))) in
     let h = in-grid (l .before .before .before) in
     cell-next _ (b .pre) _ (h .0) (h .1) _ _ _ (l .loop3 .inv) (c .before .before .before .before .loop3-test .taken) _
-    (rw (← c .before .before .before .point-at .ensures) (c .before .before .nearer .ensures _))
+    (rw (← c .before .before .before .path-point .ensures) (c .before .before .nearer .ensures _))
 
 add-col : tie.Need-add-col Inv-loop3 μ-loop3 Inv-loop2 μ-loop2 Inv-loop μ-loop Inv-rings μ-rings
 unfolding squareOf
@@ -354,7 +354,7 @@ nearest-spec =
     shared-slice-read-cursor
     loop3-holds
     sub-cursor
-    point-at-requires
+    path-point-requires
     nearer-requires
     cast-cursor-2
     add-cursor

@@ -231,7 +231,7 @@ returns-5 c =
     met s _ _
     (met-whole (handed s) (s .args .path .now) (s .args .marks .now) (s .args .work .now) (s .args .distances .now) _ _ (sound (told-of room)) (enough (test .before)) (omega (arith, test .if2 .left)) _ _ _ _ _
     (wrote joined) (omega (arith, n, r)) (c .count-marks .result)
-    (counted (s .args .points .now) (retrace (handed s)) _ _ _ _ _ _ (wrote joined) (omega (arith, n, r)) (c .count-marks .result) (k .0) (k .1) (k .2) (k .3)))
+    (counted (s .args .points .now) (retrace (handed s)) _ _ _ _ _ _ (wrote joined) (omega (arith, n, r)) (c .count-marks .result) (k .0) (k .1) (k .2) (k .3) (k .4)))
 
 pub retrace-call-spec : {M : Type 1} → statement M
 retrace-call-spec =

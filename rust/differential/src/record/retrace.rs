@@ -6,7 +6,7 @@
 //!   height, 1 for Inside and 0 for Outside, and the lengths of the path slice, of the marks
 //!   slice, of the u32 work slice and of the f64 work slice;
 //! - the coordinates; the contours' lengths; the layers;
-//! - six words: the call's number, place, points, cuts, back-steps and jumps;
+//! - seven words: the call's number, place, points, cuts, back-steps, jumps and touches;
 //! - the whole path slice as the call leaves it, where every element was [`PATH_FILL`];
 //! - the whole marks slice as the call leaves it, where every element was [`MARKS_FILL`].
 //!
@@ -15,7 +15,7 @@
 //! 16,640 and the f64 work slice at most 16. What work slices hold is not in the rows: they may
 //! hold anything before the call, and hold the same after a refusal but 6.
 //!
-//! The path is the reference's. It has no marks: these are document 01's as transcribed in
+//! The path is the reference's. It has no marks: these are the documents' as transcribed in
 //! `rule`. A refusal and the counts are the documents' rule.
 
 use harness::random::Random;
@@ -24,17 +24,20 @@ use twillharbor::StartPointStrategy::{self, Inside, Outside};
 
 use super::{
     PATH_FILL, Words, damaged_copy, fits, fitting_damages, in_layers, plate_of, refused_plates,
-    write_plate,
+    touching, write_plate,
 };
 use crate::layers;
 use crate::lent::Number;
+use crate::meeting::MEETINGS;
 use crate::plates::{Plate, small_plate};
 use crate::reference::retrace;
 use crate::retrace_plates::{KINDS, Kind, plate};
-use crate::rule;
+use crate::rule::{self, Refused, Retrace};
 
-/// How many rows there are of each kind of plate.
-const PLATES: usize = 3;
+/// How many rows there are of each kind of plate but those whose contours meet.
+const PLATES: usize = 2;
+/// How many points the path has at most where contours meet.
+const MOST_MEETING: usize = 24;
 /// How many rows there are of each damage.
 const DAMAGED: usize = 3;
 
@@ -57,8 +60,9 @@ struct Row {
 }
 
 /// The rows: document 01's plates A and D to G, others that separate one rule from another,
-/// plates that document 02's layers decide, then the same number of each kind of plate, in
-/// layers, and of damage.
+/// plates whose contours meet, plates that are refused, plates that document 02's layers decide,
+/// then two of each kind of plate, in layers, but one of each kind whose contours meet (more would
+/// not fit the replaying program's room), and the same number of each damage.
 pub fn retraces() -> String {
     let rows = rows();
     let mut words = Words::default();
@@ -69,70 +73,140 @@ pub fn retraces() -> String {
 
 fn rows() -> Vec<Row> {
     let random = &mut Random::new(21);
-    let of_layers = &mut Random::new(22);
+    let mut rows = marked_rows(random);
+    rows.extend(touching_rows(random));
+    rows.extend(refused_plates().into_iter().map(|plate| row(plate, Outside, ROOMY, random)));
+    rows.extend(layered_rows(random));
+    rows.extend(kind_rows(rows.len(), random));
+    rows.extend(meeting_rows(random));
+    rows.extend(damaged_rows(random));
+    rows
+}
+
+/// The lettered plates come in slices of several lengths, the first of which are just enough.
+fn marked_rows(random: &mut Random) -> Vec<Row> {
     let mut rows = Vec::new();
     for (place, (plate, strategy)) in marked().into_iter().enumerate() {
-        // The lettered ones in slices of several lengths, the first of which are just enough.
         let turns = if place < LETTERED { 0..4 } else { 0..1 };
-        for turn in turns {
-            rows.push(row(plate.clone(), strategy, turn, random));
-        }
+        rows.extend(turns.map(|turn| row(plate.clone(), strategy, turn, random)));
         if place == PLATE_E {
             // C = 4, by both slices, by either.
-            for (path, marks) in [(8, 8), (13, 9), (9, 24)] {
-                let row = row(plate.clone(), strategy, 0, random);
-                let work = rule::retrace_work(4, 4, 2);
-                rows.push(Row { path, marks, work, ..row });
-            }
-        }
-    }
-    for plate in refused_plates() {
-        rows.push(row(plate, Outside, ROOMY, random));
-    }
-    for (place, plate) in in_layers::sound().into_iter().enumerate() {
-        let strategies =
-            if place < in_layers::STARTING { &[Outside, Inside][..] } else { &[Inside] };
-        rows.extend(strategies.iter().map(|&strategy| row(plate.clone(), strategy, 0, random)));
-    }
-    for (turn, plate) in in_layers::refused().into_iter().enumerate() {
-        rows.push(row(plate, [Outside, Inside][turn % 2], turn, random));
-    }
-    for (kind, _) in KINDS {
-        for _ in 0..PLATES {
-            let strategy = random.pick(&[Outside, Inside]);
-            let plate = loop {
-                let plate = match kind {
-                    Kind::Of(kind) => small_plate(kind, random),
-                    _ => plate(kind, random),
-                };
-                let plate = layers::in_layers(plate, of_layers);
-                if fits(&plate) && (4..=MOST_ELEMENTS / 2).contains(&points_of(&plate, strategy)) {
-                    break plate;
-                }
-            };
-            // The slices in turn over all kinds, so that each meets each.
-            rows.push(row(plate, strategy, rows.len(), random));
-        }
-    }
-    // The damages of the layers are among the plates above.
-    for damage in fitting_damages().filter(|damage| damage.number() != rule::BAD_LAYER) {
-        for turn in 0..DAMAGED {
-            let copy = damaged_copy(damage, random);
-            rows.push(row(copy, random.pick(&[Outside, Inside]), ROOMY + turn, random));
+            let slices = [(8, 8), (13, 9), (9, 24)];
+            rows.extend(slices.map(|(path, marks)| fitted(plate.clone(), strategy, path, marks)));
         }
     }
     rows
 }
 
+/// The row whose work is just enough for these slices.
+fn fitted(plate: Plate, strategy: StartPointStrategy, path: usize, marks: usize) -> Row {
+    let contours = plate.lengths.len();
+    let room = rule::retrace_room(path, marks);
+    let work = rule::retrace_work(room, plate.points.len() / 2, contours);
+    Row { plate, strategy, path, marks, work, distances: contours }
+}
+
+/// All fit; some are cut off before a touch and after it.
+fn touching_rows(random: &mut Random) -> Vec<Row> {
+    let mut rows = Vec::new();
+    for (place, plate) in touching::plates().into_iter().enumerate() {
+        rows.push(row(plate.clone(), Inside, 0, random));
+        if touching::CUT_OFF.contains(&place) {
+            let due = worked_out(&plate, Inside).expect("it is not refused");
+            let touch = due.marks.iter().position(|mark| mark[0] == rule::retrace::TOUCH);
+            let before = 2 * touch.expect("its contours meet");
+            rows.push(fitted(plate.clone(), Inside, before, before + 2));
+            rows.push(fitted(plate, Inside, before + 3, before + 2));
+        }
+    }
+    rows
+}
+
+fn layered_rows(random: &mut Random) -> Vec<Row> {
+    let mut rows = Vec::new();
+    for (place, plate) in in_layers::sound().into_iter().enumerate() {
+        let strategies =
+            if place < in_layers::STARTING { &[Outside, Inside][..] } else { &[Inside] };
+        rows.extend(strategies.iter().map(|&strategy| row(plate.clone(), strategy, 0, random)));
+    }
+    let refused = in_layers::refused().into_iter().enumerate();
+    rows.extend(refused.map(|(turn, plate)| row(plate, [Outside, Inside][turn % 2], turn, random)));
+    rows
+}
+
+/// Plates of each kind but those whose contours meet. The slices come in turn over all kinds, so
+/// that each meets each.
+fn kind_rows(first: usize, random: &mut Random) -> Vec<Row> {
+    let of_layers = &mut Random::new(22);
+    let kinds = KINDS.into_iter().filter(|(kind, _)| !matches!(kind, Kind::Meeting(_)));
+    let kinds = kinds.flat_map(|(kind, _)| [kind; PLATES]);
+    let rows = kinds.enumerate().map(|(turn, kind)| {
+        let strategy = random.pick(&[Outside, Inside]);
+        let fits = |due: &Retrace| due.marks.len() >= 4;
+        let plate = fitting_plate(kind, strategy, fits, of_layers, random);
+        row(plate, strategy, first + turn, random)
+    });
+    rows.collect()
+}
+
+/// A plate of each kind whose contours meet: its path touches, and fits.
+fn meeting_rows(random: &mut Random) -> Vec<Row> {
+    let of_layers = &mut Random::new(23);
+    let rows = MEETINGS.map(|(meeting, _)| {
+        let strategy = random.pick(&[Outside, Inside]);
+        let touches = |due: &Retrace| {
+            due.marks.len() <= MOST_MEETING
+                && due.marks.iter().any(|mark| mark[0] == rule::retrace::TOUCH)
+        };
+        let plate = fitting_plate(Kind::Meeting(meeting), strategy, touches, of_layers, random);
+        row(plate, strategy, 0, random)
+    });
+    rows.to_vec()
+}
+
+/// A plate of the kind, in layers, that fits in a row with a path of which this holds.
+fn fitting_plate(
+    kind: Kind,
+    strategy: StartPointStrategy,
+    holds: impl Fn(&Retrace) -> bool,
+    of_layers: &mut Random,
+    random: &mut Random,
+) -> Plate {
+    loop {
+        let plate = match kind {
+            Kind::Of(kind) => small_plate(kind, random),
+            _ => plate(kind, random),
+        };
+        let plate = layers::in_layers(plate, of_layers);
+        if fits(&plate)
+            && let Ok(due) = worked_out(&plate, strategy)
+            && due.whole
+            && holds(&due)
+        {
+            return plate;
+        }
+    }
+}
+
+/// The damages of the layers are among the other plates.
+fn damaged_rows(random: &mut Random) -> Vec<Row> {
+    let damages = fitting_damages().filter(|damage| damage.number() != rule::BAD_LAYER);
+    let damages = damages.flat_map(|damage| (0..DAMAGED).map(move |turn| (damage, turn)));
+    let rows = damages.map(|(damage, turn)| {
+        let copy = damaged_copy(damage, random);
+        row(copy, random.pick(&[Outside, Inside]), ROOMY + turn, random)
+    });
+    rows.collect()
+}
+
+/// The path, or as many points of it as fit in a row.
+fn worked_out(plate: &Plate, strategy: StartPointStrategy) -> Result<Retrace, Refused> {
+    retrace(plate, strategy, MOST_ELEMENTS / 2).expect("the rules agree")
+}
+
 /// How many points the path has: of more than fit in a row, one more than fits.
 fn points_of(plate: &Plate, strategy: StartPointStrategy) -> usize {
-    let cap = MOST_ELEMENTS / 2;
-    match retrace(plate, strategy, cap) {
-        Ok(Ok(retrace)) if retrace.whole => retrace.marks.len(),
-        Ok(Ok(_)) => cap + 1,
-        Ok(Err(_)) => 0,
-        Err(difference) => panic!("{difference}"),
-    }
+    worked_out(plate, strategy).map_or(0, |due| due.marks.len() + usize::from(!due.whole))
 }
 
 /// The turn whose slices are longer than they need be.
@@ -173,7 +247,7 @@ const PLATE_E: usize = 4;
 fn marked() -> Vec<(Plate, StartPointStrategy)> {
     type Contours = &'static [&'static [(f64, f64)]];
     const TINY: f64 = 1.0 / 64.0;
-    let plates: [(Contours, u32, u32, StartPointStrategy); 42] = [
+    let plates: [(Contours, u32, u32, StartPointStrategy); 41] = [
         // A, and with contours that are skipped
         (&[], 0, 0, Outside),
         (&[&[], &[], &[]], 10, 10, Inside),
@@ -308,8 +382,6 @@ fn marked() -> Vec<(Plate, StartPointStrategy)> {
             0,
             Inside,
         ),
-        // a jump of length zero counts as a jump
-        (&[&[(1.0, 1.0)], &[(1.0, 1.0), (1.0, 1.0)], &[(1.0, 1.0)]], 0, 0, Inside),
         // 0 and -0 are as near, and each keeps its bits
         (&[&[(0.0, -0.0)], &[(-0.0, 0.0), (-0.0, -0.0)], &[(0.0, 0.0)]], 0, 0, Outside),
     ];
@@ -326,7 +398,7 @@ fn write_row(words: &mut Words, row: &Row) {
     assert!(work <= MOST_WORK && distances <= MOST_DISTANCES);
     write_plate(words, plate, *strategy, &[path, marks, work, distances]);
 
-    let due = retrace(plate, *strategy, MOST_ELEMENTS / 2).expect("the rules agree");
+    let due = worked_out(plate, *strategy);
     let result = due.as_ref().map_err(|&refused| refused);
     let room = rule::retrace_room(path, marks);
     let lengths = &plate.lengths;
@@ -352,6 +424,7 @@ mod tests {
         LETTERED, MARKS_FILL, MOST_DISTANCES, MOST_ELEMENTS, MOST_WORK, PATH_FILL, PLATE_E, marked,
         retraces,
     };
+    use crate::rule::retrace::TOUCH;
 
     /// Reads the rows as a program without Rust would, and calls the library.
     #[test]
@@ -362,7 +435,7 @@ mod tests {
         let mut next = || words.next().expect("the row has another word");
         let rows = next();
         assert!((180..=220).contains(&rows), "{rows} rows");
-        let (mut numbers, mut places) = ([0; 14], [0; 2]);
+        let (mut numbers, mut places, mut touching) = ([0; 14], [0; 2], [0; 3]);
         for _ in 0..rows {
             let [coordinates, contours, layers] = [(); 3].map(|()| next() as usize);
             let [width, height] = [(); 2].map(|()| u32::try_from(next()).unwrap());
@@ -395,8 +468,8 @@ mod tests {
                 &mut work,
                 &mut distances,
             );
-            let answer = [r.number, r.place, r.points, r.cuts, r.back_steps, r.jumps];
-            assert_eq!(answer.map(u64::from), [(); 6].map(|()| next()));
+            let answer = [r.number, r.place, r.points, r.cuts, r.back_steps, r.jumps, r.touches];
+            assert_eq!(answer.map(u64::from), [(); 7].map(|()| next()));
             path.iter().for_each(|&x| assert_eq!(x.to_bits(), next()));
             marks.iter().for_each(|&n| assert_eq!(u64::from(n), next()));
             if r.number != 0 && r.number != 6 {
@@ -406,12 +479,19 @@ mod tests {
             if r.number == 5 {
                 places[r.place as usize] += 1;
             }
+            touching[0] += u32::from(r.touches > 0);
+            touching[1] += u32::from(r.touches > 0 && r.jumps > 0);
+            let last = (r.place as usize).checked_sub(1).and_then(|last| marks.get(2 * last));
+            touching[2] += u32::from(r.number == 6 && last == Some(&TOUCH));
         }
         assert_eq!(words.next(), None);
         // Every number but 1 is there, several times, and both places of 5.
         assert!([0, 2, 3, 13, 4, 5, 6].iter().all(|&n| numbers[n] >= 4), "{numbers:?}");
         assert!(places.iter().all(|&rows| rows >= 4), "{places:?}");
         assert!(numbers[0] >= 60 && numbers[6] >= 25, "{numbers:?}");
+        // Touches, touches beside jumps, and paths that are cut off after a touch.
+        let [touches, beside_jumps, cut_off] = touching;
+        assert!(touches >= 30 && beside_jumps >= 10 && cut_off >= 2, "{touching:?}");
     }
 
     #[test]

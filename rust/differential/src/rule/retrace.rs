@@ -1,5 +1,6 @@
-//! Document 01's retrace and its marks once more, with document 02's layers, written from their
-//! text and apart from the reference: grid and nearest, samples and cache, retrace and marks.
+//! Document 01's retrace and its marks once more, with document 02's layers and touches, written
+//! from their text and apart from the reference: grid and nearest, samples and cache, retrace and
+//! marks.
 
 use std::cmp::Reverse;
 
@@ -13,6 +14,7 @@ pub const START: u32 = 0;
 pub const CUT: u32 = 1;
 pub const BACK_STEP: u32 = 2;
 pub const JUMP: u32 = 3;
+pub const TOUCH: u32 = 4;
 
 /// The path point's vertex and its mark: a kind and a reference.
 #[derive(Debug, Clone, Copy, PartialEq, Eq)]
@@ -183,6 +185,14 @@ impl Path<'_> {
         }
     }
 
+    /// A contour that was not entered before, from one of its vertices on. The path comes there
+    /// from its end, and numbers are compared, so that 0 and -0 are equal.
+    fn enter(&mut self, contour: Contour, entry: usize) {
+        let end = self.steps.last().expect("the path has a point");
+        let equal = self.points[end.vertex] == self.points[contour.first + entry];
+        self.emit(contour, entry, if equal { TOUCH } else { JUMP });
+    }
+
     /// A contour, from one of its vertices on; `kind` is the landing's.
     fn emit(&mut self, contour: Contour, entry: usize, kind: u32) {
         let first = contour.first;
@@ -267,7 +277,7 @@ pub fn retrace(plate: &Plate, strategy: StartPointStrategy, cap: usize) -> (Vec<
         let contour = contours[chosen];
         let (_, place) = path.nearest(contour.first + entry);
         path.walk_back(place, cap);
-        path.emit(contour, entry, JUMP);
+        path.enter(contour, entry);
 
         let mut listed = Vec::new();
         let mut met = vec![false; cells];
@@ -357,6 +367,32 @@ mod tests {
         assert_eq!(marks(&f, &[1, 3], [8, 0], Inside), [[0, 0], [3, 2], [1, 2], [2, 1], [1, 1]]);
         let g = [0.0, 0.0, 1.0, 0.0, 0.0, 1.0];
         assert_eq!(marks(&g, &[1, 1, 1], [0, 0], Inside), [[0, 0], [3, 1], [2, 0], [3, 2]]);
+    }
+
+    #[test]
+    fn a_jump_between_equal_points_is_a_touch() {
+        let entry = |a: [f64; 2], b: [f64; 2]| marks(&[a, b].concat(), &[1, 1], [0, 0], Inside)[1];
+        for (a, b) in [([1.0, 2.0], [1.0, 2.0]), ([0.0, -0.0], [-0.0, 0.0])] {
+            assert_eq!(entry(a, b), [4, 1]);
+        }
+        for b in [[1e-200, 0.0], [0.0, 5e-324], [0.0, 1.0], [1.0, 0.0]] {
+            assert_eq!(entry([0.0, 0.0], b), [3, 1]);
+        }
+        // (0,0)(4,0)(8,0) | (4,0)(4,3): left where the walk back ends.
+        let points = [0.0, 0.0, 4.0, 0.0, 8.0, 0.0, 4.0, 0.0, 4.0, 3.0];
+        assert_eq!(
+            marks(&points, &[3, 2], [0, 0], Inside),
+            [[0, 0], [1, 0], [1, 1], [2, 1], [4, 3], [1, 3]]
+        );
+        // (0,0)(1e-200,0) | (0,0): the later of two path points at distance 0 is the other one.
+        let points = [0.0, 0.0, 1e-200, 0.0, 0.0, 0.0];
+        assert_eq!(marks(&points, &[2, 1], [0, 0], Inside), [[0, 0], [1, 0], [3, 2]]);
+        // (1,1)(1,1)(2,1) | (1,0): cut and steps back stay what they are.
+        let points = [1.0, 1.0, 1.0, 1.0, 2.0, 1.0, 1.0, 0.0];
+        assert_eq!(
+            marks(&points, &[3, 1], [2, 4], Inside),
+            [[0, 0], [1, 0], [1, 1], [2, 1], [3, 3]]
+        );
     }
 
     #[test]

@@ -18,11 +18,12 @@ const fn plain(text: String) -> Row {
 /// A label and its value.
 pub type Item = (&'static str, String);
 
-const HELP: [(&str, &str); 11] = [
+const HELP: [(&str, &str); 12] = [
     ("on", "Right, Down, n, Space, Enter"),
     ("back", "Left, Up, p, Backspace"),
     ("by ten", "PageDown on, PageUp back"),
     ("jump", "j next, J previous"),
+    ("touch", "t next, T previous"),
     ("back-step", "b next, B previous"),
     ("cut", "c next, C previous"),
     ("pair N", "N Enter, or g N Enter"),
@@ -64,8 +65,15 @@ pub fn items(state: &State) -> Vec<Item> {
     };
     let (now, all) = (state.so_far(), state.joined.path.counts());
     let counts = format!(
-        "cuts {} of {}, back-steps {} of {}, jumps {} of {}",
-        now.cuts, all.cuts, now.back_steps, all.back_steps, now.jumps, all.jumps
+        "cuts {} of {}, back-steps {} of {}, jumps {} of {}, touches {} of {}",
+        now.cuts,
+        all.cuts,
+        now.back_steps,
+        all.back_steps,
+        now.jumps,
+        all.jumps,
+        now.touches,
+        all.touches
     );
     items.insert(items.len().min(4), ("so far", counts));
     items
@@ -229,6 +237,7 @@ fn sign(kind: &str) -> char {
         "cut" => '-',
         "back-step" => '~',
         "jump" => '^',
+        "touch" => '+',
         _ => 'o',
     }
 }
@@ -238,6 +247,7 @@ fn colour(state: &State, number: usize) -> &'static str {
         "cut" => "32",
         "back-step" => "33",
         "jump" => "35",
+        "touch" => "94",
         _ => "36",
     }
 }
@@ -331,12 +341,13 @@ fn cut(text: &str, columns: usize) -> String {
 
 #[cfg(test)]
 mod tests {
-    use super::{Row, cut, frame, title, wrap};
+    use super::{Row, colour, cut, frame, sign, title, wrap};
     use crate::joined::Joined;
     use crate::number::show;
     use crate::step::keys::Key;
     use crate::step::state::State;
-    use crate::tell::tests::{joined, plate_e};
+    use crate::tell::tests::{joined, plate_e, touching};
+    use std::collections::BTreeSet;
 
     fn shown(state: &State, rows: usize, columns: usize) -> Vec<String> {
         frame(state, rows, columns)
@@ -357,7 +368,7 @@ mod tests {
             "to         (4,0)",
             "length     4",
             "reverses   pair 2 over cut 2 contour 0 segment 1",
-            "so far     cuts 2 of 2, back-steps 1 of 2, jumps 0 of 1",
+            "so far     cuts 2 of 2, back-steps 1 of 2, jumps 0 of 1, touches 0 of 0",
             "mark       kind 2 reference 1",
             "points     path points 2 and 3",
             "vertices   2 to 1 of the plate, contour 0 vertex 2 to contour 0 vertex 1",
@@ -372,6 +383,29 @@ mod tests {
             "Right on  Left back  j next jump  J jump before  g number  ? keys  q leave",
         ];
         assert_eq!(shown(&state, 19, 80), expected);
+    }
+
+    #[test]
+    fn a_touch_has_a_sign_and_a_colour_of_its_own() {
+        let plate = touching();
+        let mut state = State::new(&plate, "touching");
+        state.current = 3;
+        let rows = shown(&state, 24, 80);
+        for row in [
+            "pair 3 of 5  + touch",
+            "to         (-0,0)",
+            "touches    contour 0 vertex 0 to contour 1 vertex 0",
+            "so far     cuts 1 of 2, back-steps 1 of 1, jumps 0 of 1, touches 1 of 1",
+            "mark       kind 4 reference 2",
+            "> 3 + touch     (0,0) -> (-0,0) length 0 contour 0 vertex 0 to contour 1 ..",
+            "  5 ^ jump      (0,4) -> (0,5) length 1 contour 1 vertex 1 to contour 2 vertex 0",
+        ] {
+            assert!(rows.iter().any(|shown| shown == row), "{row} is not in {rows:#?}");
+        }
+        // Start, cut, back-step, touch and jump.
+        let signs: BTreeSet<char> = (0..=5).map(|n| sign(plate.kind(n))).collect();
+        let colours: BTreeSet<&str> = (0..=5).map(|n| colour(&state, n)).collect();
+        assert_eq!((signs.len(), colours.len()), (5, 5), "{signs:?} {colours:?}");
     }
 
     #[test]

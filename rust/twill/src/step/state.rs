@@ -58,6 +58,7 @@ impl<'a> State<'a> {
                 PairKind::Cut { .. } => counts.cuts += 1,
                 PairKind::BackStep { .. } => counts.back_steps += 1,
                 PairKind::Jump { .. } => counts.jumps += 1,
+                PairKind::Touch { .. } => counts.touches += 1,
             }
         }
         counts
@@ -73,6 +74,8 @@ impl<'a> State<'a> {
             Key::End => self.current = self.joined.count(),
             Key::Char('j') => self.next("jump"),
             Key::Char('J') => self.previous("jump"),
+            Key::Char('t') => self.next("touch"),
+            Key::Char('T') => self.previous("touch"),
             Key::Char('b') => self.next("back-step"),
             Key::Char('B') => self.previous("back-step"),
             Key::Char('c') => self.next("cut"),
@@ -154,7 +157,7 @@ impl<'a> State<'a> {
 mod tests {
     use super::State;
     use crate::step::keys::Key;
-    use crate::tell::tests::{joined, plate_e};
+    use crate::tell::tests::{joined, plate_e, touching};
 
     /// The current pair after each key; where a key leaves, the row ends.
     fn walk(state: &mut State, keys: &[Key]) -> Vec<usize> {
@@ -179,6 +182,28 @@ mod tests {
         assert_eq!(walk(&mut state, &far), [5, 0, 5, 1]);
         assert_eq!(walk(&mut state, &typed("bbBj")), [3, 4, 3, 5]);
         assert_eq!(walk(&mut state, &typed("CCc")), [2, 1, 2]);
+    }
+
+    /// Cut, back-step, touch, cut, jump.
+    #[test]
+    fn jumps_and_touches_have_keys_of_their_own() {
+        let plate = touching();
+        let mut state = State::new(&plate, "touching");
+        assert_eq!(walk(&mut state, &typed("tjT")), [3, 5, 3]);
+        for (key, message) in [
+            ("t", "No touch after this."),
+            ("T", "No touch before this."),
+            ("J", "No jump before this."),
+        ] {
+            assert_eq!(walk(&mut state, &typed(key)), [3], "{key}");
+            assert_eq!(state.message.as_deref(), Some(message));
+        }
+        let counts = [(0, 0), (0, 0), (0, 0), (0, 1), (0, 1), (1, 1)];
+        for (current, expected) in counts.into_iter().enumerate() {
+            state.current = current;
+            assert_eq!((state.so_far().jumps, state.so_far().touches), expected);
+        }
+        assert_eq!(state.so_far(), plate.path.counts());
     }
 
     #[test]
@@ -245,7 +270,7 @@ mod tests {
     fn a_path_of_one_point_has_its_start_alone() {
         let plate = joined(&[&[(1.0, 2.0)]], 0, 0);
         let mut state = State::new(&plate, "one");
-        assert_eq!(walk(&mut state, &typed("npjJbc1\n")), [0; 8]);
+        assert_eq!(walk(&mut state, &typed("npjJtTbc1\n")), [0; 10]);
         assert_eq!(state.message.as_deref(), Some("There is no pair 1; the last is 0."));
         assert_eq!(walk(&mut state, &[Key::Home, Key::End]), [0, 0]);
     }

@@ -137,6 +137,14 @@ function dot(target, x, y, radius) {
   target.arc(x, y, radius, 0, 2 * Math.PI);
 }
 
+function lozenge(target, x, y, size) {
+  target.moveTo(x, y - size);
+  target.lineTo(x + size, y);
+  target.lineTo(x, y + size);
+  target.lineTo(x - size, y);
+  target.closePath();
+}
+
 /** The list's cuts as lines; those that follow on one another are one line. */
 function drawCuts(target, v, list, from, to) {
   target.beginPath();
@@ -220,6 +228,7 @@ function styleOf(isFine, size) {
   const width = (most) => (isFine ? fine : Math.max(most * k, fine));
   return {
     isFine, widths: [0, width(1.7), width(2.4), width(1.8)], pale: fine,
+    touch: Math.max(6 * k, 4 * ratio),
     dot: 2.5 * k, period: 6.5 * ratio, aside: Math.max(4 * k, 2.2 * ratio),
     dashes: Math.max(k, 0.7 * ratio), dash: 11 * Math.max(k, 0.7 * ratio), head: 11 * Math.max(k, 0.6 * ratio), lone: 2.6 * k,
   };
@@ -259,16 +268,21 @@ class Picture {
     const longest = Math.hypot(v.width, v.height), reach = 16 * ratio;
     const isAway = awayFrom(v, reach);
     let count = 0;
-    const others = [];
+    const others = [], signs = [];
     for (const pair of items) {
       if (isAway(2 * pair) || !lay(v, pair, reach)) continue;
       if (v.only !== null && pairLayers[pair] !== v.only) { others.push(pair); continue; }
+      if (kindOf(pair) === TOUCH) { signs.push(pair); continue; }
       lengthsSeen[count] = Math.min(line.last - line.first, longest);
       seen[count++] = pair;
     }
     this.list = seen.slice(0, count);
+    this.touches = Uint32Array.from(signs);
     // What is to come, and all of the layers that are not asked for, is pale.
-    this.palePairs = others.length ? Uint32Array.from([...others, ...this.list]) : this.list;
+    const apart = [...others, ...signs];
+    this.palePairs = new Uint32Array(apart.length + count);
+    this.palePairs.set(apart);
+    this.palePairs.set(this.list, apart.length);
     const size = this.sizeFor(lengthsSeen);
     this.setStyle(styleOf(false, size), lengthsSeen);
     if (count > 15000 || this.cost > 60000) this.setStyle(styleOf(true, LEAST_SIZE), lengthsSeen);
@@ -363,7 +377,7 @@ class Picture {
     target.beginPath();
     for (let at = this.paleAt; at < to; at++) {
       const pair = this.palePairs[at];
-      if (kindOf(pair) !== JUMP || !isLone(pair)) continue;
+      if (!isEntry(pair) || !isLone(pair)) continue;
       dot(target, acrossOf(this.view, path[2 * pair]), downOf(this.view, path[2 * pair + 1]), this.style.lone);
     }
     target.fill();
@@ -414,6 +428,27 @@ function drawPlate(target, v) {
   target.stroke();
 }
 
+// ---- Touches. They are drawn in each frame over what is engraved: the grooves that meet there, of
+// which most come later, would cover the signs.
+
+const MANY_TOUCHES = 600;
+
+/** The picture's touches up to the current pair. Very many are bare outlines of one pixel, which are
+ *  drawn many times faster. */
+function drawTouches({ touches, style }) {
+  const count = countUpTo(touches, current), isMany = count > MANY_TOUCHES;
+  for (let at = 0; at < count; at += BATCH) {
+    pen(context, COLOURS[TOUCH], isMany ? 1 : 1.8 * ratio);
+    context.fillStyle = SHEET;
+    context.beginPath();
+    touches.subarray(at, Math.min(at + BATCH, count)).forEach((pair) => {
+      lozenge(context, acrossOf(view, path[2 * pair]), downOf(view, path[2 * pair + 1]), style.touch);
+    });
+    if (!isMany) context.fill();
+    context.stroke();
+  }
+}
+
 // ---- The current pair.
 
 let current = Math.min(1, pairs);
@@ -453,11 +488,22 @@ function drawHalo(isShort) {
   context.fill();
 }
 
+function drawCurrentTouch() {
+  const { x, y } = line;
+  pen(context, COLOURS[TOUCH], 3 * ratio);
+  context.fillStyle = SHEET;
+  context.beginPath();
+  lozenge(context, x, y, 10 * ratio);
+  context.fill();
+  context.stroke();
+}
+
 function drawCurrent() {
   if (!current || !lay(view, current, 60 * ratio)) return;
   const kind = kindOf(current), { x, y, ux, uy, length, last } = line;
   const isShort = length < 36 * ratio;
   drawHalo(isShort);
+  if (kind === TOUCH) { drawCurrentTouch(); return; }
   const head = Math.min(14 * ratio, Math.max(length * 0.55, 4 * ratio));
   if (last === length) line.last = Math.max(length - head, line.first);
   pen(context, colourOf(current), 3 * ratio);

@@ -54,6 +54,7 @@ function compose() {
     context.setTransform(k, 0, 0, k, dx, dy);
     context.drawImage(shown.live, 0, 0);
     context.setTransform(1, 0, 0, 1, 0, 0);
+    drawTouches(shown);
   }
   if (points) drawStart();
   drawCurrent();
@@ -85,10 +86,11 @@ function go(number) {
   ask();
 }
 
-function goToJump(direction) {
-  const before = countUpTo(jumps, direction > 0 ? current : current - 1);
-  const jump = direction > 0 ? jumps[before] : jumps[before - 1];
-  if (jump) go(jump);
+/** To the next of these pairs, or to the one before. */
+function goAlong(numbers, direction) {
+  const before = countUpTo(numbers, direction > 0 ? current : current - 1);
+  const number = direction > 0 ? numbers[before] : numbers[before - 1];
+  if (number) go(number);
 }
 
 let playing = false, playedUpTo = 0;
@@ -130,20 +132,20 @@ function whatLines(pair) {
     const [, from] = pair.fromVertex, [, to] = pair.toVertex;
     return [`${segment}, ${pair.sense}`, `vertex ${grouped(from)} to vertex ${grouped(to)}`];
   }
-  if (pair.kind === "jump") {
+  if (pair.kind === "jump" || pair.kind === "touch") {
     return [`lands on ${vertexText(pair.toVertex)}`, `leaves ${vertexText(pair.fromVertex)}`];
   }
   const groove = pair.grooveKind === "cut"
     ? `the cut of ${segment}, ${pair.sense}`
-    : `the jump to ${vertexText(locate(vertices[pair.groove]))}`;
+    : `the ${pair.grooveKind} to ${vertexText(locate(vertices[pair.groove]))}`;
   if (pair.reversed === pair.groove) return [`reverses pair ${grouped(pair.reversed)}`, groove];
   return [
     `reverses pair ${grouped(pair.reversed)}`,
-    `a back-step too; the groove is pair ${grouped(pair.groove)}, ${groove}`,
+    `a back-step too; what it goes over is pair ${grouped(pair.groove)}, ${groove}`,
   ];
 }
 
-const WHAT = { cut: "Segment", "back-step": "Groove", jump: "Jump" };
+const WHAT = { cut: "Segment", "back-step": "Groove", jump: "Jump", touch: "Touch" };
 const facts = {};
 
 function makeFacts() {
@@ -221,7 +223,7 @@ function showControls(pair) {
   for (const id of ["on", "last"]) element(id).disabled = current === pairs;
   element("jump-back").disabled = !(jumps[0] < current);
   element("jump-on").disabled = !(jumps[jumps.length - 1] > current);
-  selectJump();
+  selectEntry();
 }
 
 /** Runs what may wait, once the pair has been the current one for a moment. */
@@ -242,14 +244,15 @@ function readAddress() {
   if (found) go(Number(found[1]));
 }
 
-// ---- The list of jumps.
+// ---- The list of jumps and touches. A jump may be so short that its length is 0.
 
-const byLength = Uint32Array.from(jumps).sort((a, b) => lengths[b - 1] - lengths[a - 1] || a - b);
+const byLength = Uint32Array.from([...jumps, ...touches]).sort(
+  (a, b) => lengths[b - 1] - lengths[a - 1] || kindOf(a) - kindOf(b) || a - b);
 const rows = [];
 const rowOf = new Map();
 let selected = null;
 
-function makeJumps() {
+function makeEntries() {
   const list = element("jump-list");
   byLength.forEach((pair, place) => {
     const row = document.createElement("li");
@@ -258,9 +261,11 @@ function makeJumps() {
     row.setAttribute("role", "option");
     row.setAttribute("aria-selected", "false");
     const [from] = locate(vertices[pair - 1]), [to] = locate(vertices[pair]);
-    const texts = [grouped(pair), `${grouped(from)} \u2192 ${grouped(to)}`, plain(lengths[pair - 1])];
+    const last = kindOf(pair) === TOUCH ? "touch" : plain(lengths[pair - 1]);
+    const texts = [grouped(pair), `${grouped(from)} \u2192 ${grouped(to)}`, last];
     for (const text of texts) row.append(Object.assign(document.createElement("span"), { textContent: text }));
-    row.lastChild.title = texts[2];
+    row.lastChild.title = last;
+    row.classList.add(KINDS[kindOf(pair)]);
     rows.push(row);
     rowOf.set(pair, place);
   });
@@ -269,8 +274,8 @@ function makeJumps() {
     const row = event.target.closest("li");
     if (row) go(Number(row.dataset.pair));
   });
-  element("jumps-note").textContent = jumps.length ? "" : "(none)";
-  if (jumps.length > 40) element("jumps-printed").textContent = `(40 of ${grouped(jumps.length)})`;
+  element("jumps-note").textContent = rows.length ? "" : "(none)";
+  if (rows.length > 40) element("jumps-printed").textContent = `(40 of ${grouped(rows.length)})`;
   const widest = (place, least) =>
     rows.reduce((most, row) => Math.max(most, row.children[place].textContent.length), least);
   const widths = [widest(0, 4), widest(1, 8), widest(2, 6)];
@@ -280,7 +285,7 @@ function makeJumps() {
   element("jumps").classList.toggle("two-lines", widths[0] + widths[1] + widths[2] > 33);
 }
 
-function selectJump() {
+function selectEntry() {
   const place = rowOf.get(current), list = element("jump-list");
   if (selected) selected.setAttribute("aria-selected", "false");
   selected = place === undefined ? null : rows[place];
@@ -365,8 +370,9 @@ const KEYS = {
   ArrowLeft: (event) => go(current - (event.shiftKey ? 100 : 1)),
   n: () => go(current + 1), p: () => go(current - 1),
   PageDown: () => go(current + 100), PageUp: () => go(current - 100),
-  ArrowDown: () => goToJump(1), ArrowUp: () => goToJump(-1),
-  j: () => goToJump(1), J: () => goToJump(-1),
+  ArrowDown: () => goAlong(jumps, 1), ArrowUp: () => goAlong(jumps, -1),
+  j: () => goAlong(jumps, 1), J: () => goAlong(jumps, -1),
+  t: () => goAlong(touches, 1), T: () => goAlong(touches, -1),
   Home: () => go(1), End: () => go(pairs),
   g: () => { element("number").focus(); element("number").select(); },
   " ": () => setPlaying(!playing),
@@ -412,7 +418,7 @@ function listenToNumber() {
 function listenToButtons() {
   const actions = {
     first: () => go(1), back: () => go(current - 1), on: () => go(current + 1), last: () => go(pairs),
-    "jump-back": () => goToJump(-1), "jump-on": () => goToJump(1), play: () => setPlaying(!playing),
+    "jump-back": () => goAlong(jumps, -1), "jump-on": () => goAlong(jumps, 1), play: () => setPlaying(!playing),
     "zoom-in": () => zoomAtCurrent(1.5), "zoom-out": () => zoomAtCurrent(1 / 1.5), fit,
     "help-open": () => element("help").showModal(),
   };
@@ -453,9 +459,17 @@ function onPointerUp(event) {
   if (at && event.type === "pointerup" && moved <= 4 * ratio && !pointers.size) pick(...at);
 }
 
-/** Goes to the pair that engraves the groove at these pixels. Jumps to come are not in sight. */
+/** The touch whose sign is at these pixels, of several the last; undefined if there is none. */
+function touchAt(px, py) {
+  const isHit = (pair) => pair <= current && Math.hypot(
+    px - acrossOf(view, path[2 * pair]), py - downOf(view, path[2 * pair + 1])) <= shown.style.touch;
+  return shown ? shown.touches.filter(isHit).at(-1) : undefined;
+}
+
+/** Goes to the touch whose sign is at these pixels, or else to the pair that engraves the groove
+ *  there. Jumps and touches to come are not in sight. */
 function pick(px, py) {
-  let best = 0, least = 10 * ratio;
+  let best = touchAt(px, py) ?? 0, least = best ? 0 : 10 * ratio;
   for (const pair of shown ? shown.list : []) {
     const kind = kindOf(pair);
     if (kind === BACK_STEP || (kind === JUMP && pair > current) || !lay(view, pair, 16)) continue;
@@ -511,6 +525,7 @@ function describe() {
   element("total-cuts").textContent = grouped(data.cuts);
   element("total-back-steps").textContent = grouped(data.back_steps);
   element("total-jumps").textContent = grouped(data.jumps);
+  element("total-touches").textContent = grouped(data.touches);
   element("slider").max = Math.max(pairs, 1);
 }
 
@@ -535,7 +550,7 @@ window.twill = Object.freeze({
 });
 
 describe();
-makeJumps();
+makeEntries();
 makeLayers();
 if (pairs) makeFacts(); else sayNothing();
 listenToButtons();

@@ -1,8 +1,8 @@
 // The path, and what follows from its marks.
 
-const START = 0, CUT = 1, BACK_STEP = 2, JUMP = 3;
-const KINDS = ["start", "cut", "back-step", "jump"];
-const COLOURS = ["#111111", "#111111", "#d55e00", "#0072b2"];
+const START = 0, CUT = 1, BACK_STEP = 2, JUMP = 3, TOUCH = 4;
+const KINDS = ["start", "cut", "back-step", "jump", "touch"];
+const COLOURS = ["#111111", "#111111", "#d55e00", "#0072b2", "#5d3a9b"];
 /** A layer's dashes are by its number modulo 4: pairs of a place within a period and a length, in
  *  pixels. Its colour goes on by one after each four, so that no two of sixteen layers look alike. */
 const LAYER_COLOURS = ["#111111", "#007a53", "#a8327d", "#7a5200"];
@@ -31,17 +31,19 @@ data.contours.reduce((first, length, contour) => { firsts[contour] = first; retu
 
 const kindOf = (point) => marks[2 * point];
 const referenceOf = (point) => marks[2 * point + 1];
+/** Whether a pair goes over to a contour that was not entered before. */
+const isEntry = (pair) => kindOf(pair) === JUMP || kindOf(pair) === TOUCH;
 
 /** The vertex of each path point. */
 const vertices = new Uint32Array(points);
-/** For each pair the cut or jump that it is, or that it goes back over. */
+/** For each pair the cut, jump or touch that it is, or that it goes back over. */
 const grooves = new Uint32Array(points);
 /** 1 for each pair that goes along its groove against the sense in which that was engraved. */
 const against = new Uint8Array(points);
-/** The jumps' pair numbers, in order. */
-const jumps = new Uint32Array(data.jumps);
+/** The jumps' pair numbers and the touches', in order. */
+const jumps = new Uint32Array(data.jumps), touches = new Uint32Array(data.touches);
 (() => {
-  let jump = 0;
+  let jump = 0, touch = 0;
   for (let i = 0; i < points; i++) {
     const kind = kindOf(i), reference = referenceOf(i);
     vertices[i] = reference;
@@ -54,6 +56,8 @@ const jumps = new Uint32Array(data.jumps);
       against[i] = 1 - against[reference + 1];
     } else if (kind === JUMP) {
       jumps[jump++] = i;
+    } else if (kind === TOUCH) {
+      touches[touch++] = i;
     }
   }
 })();
@@ -80,8 +84,8 @@ function locate(vertex) {
 const layers = data.layers ?? null;
 const layerOfContour = (contour) => (layers ? layers[contour] : 0);
 
-/** For each pair the layer of the contour whose groove it is or goes back over; a jump's is that of
- *  the contour that it lands on. */
+/** For each pair the layer of the contour whose groove it is or goes back over; a jump's or touch's is
+ *  that of the contour that it lands on. */
 const pairLayers = new Uint32Array(points);
 if (layers) for (let i = 0; i < points; i++) pairLayers[i] = layerOfContour(locate(vertices[grooves[i]])[0]);
 
@@ -134,7 +138,7 @@ const items = (() => {
   let count = 0;
   for (let i = 1; i < points; i++) {
     // Along a run of back-steps or of cuts the dashes go on from one pair to the next.
-    if (kindOf(i - 1) === kindOf(i) && kindOf(i) !== JUMP) runs[i] = runs[i - 1] + lengths[i - 2];
+    if (kindOf(i - 1) === kindOf(i) && !isEntry(i)) runs[i] = runs[i - 1] + lengths[i - 2];
     if (kindOf(i) !== BACK_STEP) { kept[count++] = i; continue; }
     const sense = 1 + against[i];
     if (again[grooves[i]] & sense) continue;

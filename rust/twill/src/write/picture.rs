@@ -1,7 +1,7 @@
-//! Pictures in SVG. The three kinds of pair differ without colour too: a cut is a thin line, a
-//! groove that is gone back over has a wide pale band under it, and a jump is a dashed arrow. Layers
-//! differ in colour and dashes, and each is a group with its name as title. The colours are those of
-//! the page.
+//! Pictures in SVG. The four kinds of pair differ without colour too: a cut is a thin line, a
+//! groove that is gone back over has a wide pale band under it, a jump is a dashed arrow, and a touch
+//! a lozenge. Layers differ in colour and dashes, and each is a group with its name as title. The
+//! colours are those of the page.
 
 use crate::joined::Joined;
 use crate::number::show;
@@ -14,11 +14,15 @@ use twillharbor::{Entry, PairKind, Point};
 const CUT: &str = "#111111";
 const BACK_STEP: &str = "#d55e00";
 const JUMP: &str = "#0072b2";
+const TOUCH: &str = "#5d3a9b";
 
 /// A layer's dashes are by its number modulo 4, in units; its colour goes on by one after each four,
 /// so that no two of sixteen layers look alike.
 const LAYER_DASHES: [&[f64]; 4] = [&[], &[6.0, 2.6], &[0.1, 2.2], &[6.0, 2.4, 0.1, 2.4]];
 const LAYER_COLOURS: [&str; 4] = [CUT, "#007a53", "#a8327d", "#7a5200"];
+
+/// From a lozenge's middle to its corners, in units.
+const LOZENGE: f64 = 2.3;
 
 /// How the lines of one kind are drawn.
 struct Style<'a> {
@@ -115,22 +119,25 @@ impl Frame {
         self.lines(data, Style { class: "back-steps", colour: BACK_STEP, width: 3.6, more })
     }
 
-    /// Each jump is a dashed arrow, and one of length zero a dot.
-    fn jumps(&self, jumps: &[(Point, Point)]) -> String {
-        let drawn: String = jumps
-            .iter()
-            .map(|&(from, to)| {
-                if from == to {
-                    return self.circle(to, 1.3, &format!("fill=\"{JUMP}\" stroke=\"none\""));
-                }
-                let mut line = Lines::default();
-                line.add(from, to);
-                format!("<path d=\"{}\" marker-end=\"url(#arrow)\"/>\n", line.data)
-            })
-            .collect();
+    /// What joins the contours: each jump a dashed arrow, each touch a lozenge.
+    fn joins(&self, joins: &Joins) -> String {
+        let arrow = |&(from, to): &(Point, Point)| {
+            let mut line = Lines::default();
+            line.add(from, to);
+            format!("<path d=\"{}\" marker-end=\"url(#arrow)\"/>\n", line.data)
+        };
+        let jumps: String = joins.jumps.iter().map(arrow).collect();
+        let touches: String = joins.touches.iter().map(|&at| self.lozenge(at)).collect();
         let dashes =
             format!(" stroke-dasharray=\"{} {}\"", show(3.0 * self.unit), show(2.4 * self.unit));
-        self.group(&drawn, Style { class: "jumps", colour: JUMP, width: 1.0, more: &dashes })
+        let jump = Style { class: "jumps", colour: JUMP, width: 1.0, more: &dashes };
+        let touch = Style { class: "touches", colour: TOUCH, width: 1.0, more: " fill=\"#fff\"" };
+        self.group(&jumps, jump) + &self.group(&touches, touch)
+    }
+
+    fn lozenge(&self, at: Point) -> String {
+        let (x, y, side) = (show(at.x), show(at.y), show(LOZENGE * self.unit));
+        format!("<path d=\"M{x},{y}m0,-{side}l{side},{side}l-{side},{side}l-{side},-{side}Z\"/>\n")
     }
 
     /// Lines of one style; without data there are none.
@@ -176,18 +183,19 @@ impl Frame {
     }
 }
 
-/// The path with its cuts, back-steps, jumps and start, and their numbers under it.
+/// The path with its cuts, back-steps, jumps, touches and start, and their numbers under it.
 pub fn retrace(joined: &Joined) -> String {
     let frame = Frame::around(&joined.plate.points);
     let mut walked_back = BTreeSet::new();
-    let (mut drawn, mut jumps) = (dots(&joined.plate), Vec::new());
+    let (mut drawn, mut joins) = (dots(&joined.plate), Joins::default());
     for number in 1..=joined.count() {
         let pair = joined.pair(number);
         match pair.kind {
             PairKind::Cut { .. } => {
                 drawn.entry(joined.layer(number)).or_default().lines.add(pair.from, pair.to);
             }
-            PairKind::Jump { .. } => jumps.push((pair.from, pair.to)),
+            PairKind::Jump { .. } => joins.jumps.push((pair.from, pair.to)),
+            PairKind::Touch { .. } => joins.touches.push(pair.to),
             PairKind::BackStep { .. } => {
                 walked_back.insert(joined.groove(number));
             }
@@ -198,10 +206,11 @@ pub fn retrace(joined: &Joined) -> String {
         back_steps.add(joined.pair(number).from, joined.pair(number).to);
     }
     let mut body = frame.back_steps(&back_steps.data) + &frame.contours(&joined.plate, &drawn);
-    body += &frame.jumps(&jumps);
+    body += &frame.joins(&joins);
     body += &joined.path.start().map_or(String::new(), |(p, _)| frame.ring(p));
-    body += &legend(&frame, joined);
-    let (layers, foot) = layer_legend(&frame, &joined.plate, LEGEND);
+    let (legend, above) = legend(&frame, joined);
+    body += &legend;
+    let (layers, foot) = layer_legend(&frame, &joined.plate, above);
     body += &layers;
     let counts = joined.path.counts();
     frame.picture(&format!("Retraced path: {}", words::counts(counts)), foot, &body)
@@ -218,10 +227,12 @@ fn dots(plate: &Handed) -> BTreeMap<u32, Drawn> {
     drawn
 }
 
-/// Units under the plate for the legend, and for each row of that of the layers.
-const LEGEND: f64 = 16.0;
-const LAYER_ROW: f64 = 10.0;
-/// Units that are enough for a layer's row, so that two stand side by side.
+/// Units under the plate below the legend's rows, and for each row of it or of the layers'.
+const LEGEND_FOOT: f64 = 6.0;
+const LEGEND_ROW: f64 = 10.0;
+/// Units that are enough for a sample with its number, and for a layer's, so that as many stand
+/// side by side.
+const KIND_COLUMN: f64 = 84.0;
 const LAYER_COLUMN: f64 = 170.0;
 
 /// A sample of each layer with its counts, below what stands in so many units under the plate; and
@@ -237,7 +248,7 @@ fn layer_legend(frame: &Frame, plate: &Handed, above: f64) -> (String, f64) {
     for (place, (&layer, &counts)) in layers.iter().enumerate() {
         let (row, column) = (place / columns, place % columns);
         let x = frame.left + 7.0 * unit + column as f64 * frame.width / columns as f64;
-        let y = frame.top + frame.height + (above + 1.0 + LAYER_ROW * row as f64) * unit;
+        let y = frame.top + frame.height + (above + 1.0 + LEGEND_ROW * row as f64) * unit;
         let mut sample = Drawn::default();
         sample.lines.add(Point { x, y }, Point { x: x + 22.0 * unit, y });
         body += &frame.layer(layer, &sample);
@@ -245,52 +256,66 @@ fn layer_legend(frame: &Frame, plate: &Handed, above: f64) -> (String, f64) {
         body += &frame.text(at, &words::layer(layer, counts));
     }
     let rows = layers.len().div_ceil(columns);
-    (format!("<g id=\"layers\">\n{body}</g>\n"), above + LAYER_ROW * rows as f64)
+    (format!("<g id=\"layers\">\n{body}</g>\n"), above + LEGEND_ROW * rows as f64)
 }
 
-/// A sample of each style with how many there are.
-fn legend(frame: &Frame, joined: &Joined) -> String {
+/// A sample of each style with how many there are, and the units that are taken under the plate.
+fn legend(frame: &Frame, joined: &Joined) -> (String, f64) {
     let counts = joined.path.counts();
+    let kinds = [
+        (counts.cuts, "cut"),
+        (counts.back_steps, "back-step"),
+        (counts.jumps, "jump"),
+        (counts.touches, "touch"),
+    ];
     let unit = frame.unit;
-    let y = frame.top + frame.height + 7.0 * unit;
-    let column = frame.width / 3.0;
+    let columns = if frame.width < kinds.len() as f64 * KIND_COLUMN * unit { 2 } else { 4 };
     let mut body = String::new();
-    for (place, (number, what)) in
-        [(counts.cuts, "cut"), (counts.back_steps, "back-step"), (counts.jumps, "jump")]
-            .into_iter()
-            .enumerate()
-    {
-        let x = frame.left + place as f64 * column + 7.0 * unit;
-        let (from, to) = (Point { x, y }, Point { x: x + 13.0 * unit, y });
-        let mut sample = Lines::default();
-        sample.add(from, to);
-        body += &match what {
-            "cut" => frame.cuts(&sample.data),
-            "back-step" => frame.back_steps(&sample.data) + &frame.cuts(&sample.data),
-            _ => frame.jumps(&[(from, to)]),
-        };
+    for (place, (number, what)) in kinds.into_iter().enumerate() {
+        let (row, column) = (place / columns, place % columns);
+        let x = frame.left + 7.0 * unit + column as f64 * frame.width / columns as f64;
+        let y = frame.top + frame.height + (7.0 + LEGEND_ROW * row as f64) * unit;
+        body += &sample(frame, what, Point { x, y });
         let at = Point { x: x + 16.0 * unit, y: y + 2.4 * unit };
         body += &frame.text(at, &words::count(number, what));
     }
-    format!("<g id=\"legend\">\n{body}</g>\n")
+    let rows = kinds.len().div_ceil(columns);
+    (format!("<g id=\"legend\">\n{body}</g>\n"), LEGEND_FOOT + LEGEND_ROW * rows as f64)
 }
 
-/// The contours, and the lines that join each to the next.
+/// How pairs of a kind are drawn, from this point to the right.
+fn sample(frame: &Frame, kind: &str, from: Point) -> String {
+    let to = Point { x: from.x + 13.0 * frame.unit, y: from.y };
+    let mut line = Lines::default();
+    line.add(from, to);
+    let mut joins = Joins::default();
+    match kind {
+        "cut" => return frame.cuts(&line.data),
+        "back-step" => return frame.back_steps(&line.data) + &frame.cuts(&line.data),
+        "jump" => joins.jumps.push((from, to)),
+        _ => joins.touches.push(Point { x: from.x + 6.5 * frame.unit, y: from.y }),
+    }
+    frame.joins(&joins)
+}
+
+/// The contours, and what joins each to the next: a line, or a lozenge where they meet.
 pub fn straight(plate: &Handed, entries: &[Entry], path: &[Point]) -> String {
     let frame = Frame::around(&plate.points);
-    let (mut drawn, mut jumps) = (BTreeMap::new(), Vec::new());
+    let (mut drawn, mut joins) = (BTreeMap::new(), Joins::default());
     let mut rest = path;
     let mut last: Option<Point> = None;
     for entry in entries {
         let (contour, after) = rest.split_at(plate.lengths[entry.contour as usize] as usize);
-        if let (Some(from), Some(&to)) = (last, contour.first()) {
-            jumps.push((from, to));
+        match (last, contour.first()) {
+            (Some(from), Some(&to)) if from == to => joins.touches.push(to),
+            (Some(from), Some(&to)) => joins.jumps.push((from, to)),
+            _ => {}
         }
         add_contour(&mut drawn, plate.layers[entry.contour as usize], contour);
         last = contour.last().copied();
         rest = after;
     }
-    let mut body = frame.contours(plate, &drawn) + &frame.jumps(&jumps);
+    let mut body = frame.contours(plate, &drawn) + &frame.joins(&joins);
     body += &path.first().map_or(String::new(), |&p| frame.ring(p));
     let (layers, foot) = layer_legend(&frame, plate, 0.0);
     body += &layers;
@@ -335,6 +360,13 @@ pub fn order(plate: &Handed, entries: &[Entry]) -> String {
 struct Drawn {
     lines: Lines,
     dots: Vec<Point>,
+}
+
+/// What joins one contour to the next.
+#[derive(Default)]
+struct Joins {
+    jumps: Vec<(Point, Point)>,
+    touches: Vec<Point>,
 }
 
 /// Path data, a line of text a run of lines.

@@ -8,7 +8,8 @@ import bisect
 import math
 import random
 
-KINDS = ["start", "cut", "back-step", "jump"]
+KINDS = ["start", "cut", "back-step", "jump", "touch"]
+JUMP, TOUCH = 3, 4
 
 
 def waves(across, down, points):
@@ -52,6 +53,14 @@ FAR = [
 ]
 
 
+# Strokes that meet in a point, at 0 and -0, a stroke on another's end with one more beyond it, a point
+# on a stroke, and a jump so short that its length is 0.
+TOUCHING = [
+    [(0.0, 0.0), (10.0, 0.0)], [(-0.0, 0.0), (0.0, 10.0)], [(10.0, -0.0), (10.0, 10.0)], [(0.0, 10.0)],
+    [(10.0, 10.0), (5.0, 5.0)], [(0.0, -0.0), (-10.0, -5.0)], [(1e-310, 0.0)], [(20.0, 0.0), (20.0, 10.0)],
+]
+
+
 def text(contours, width, height, start, layers=None):
     """The plain text form."""
     lines = [f"size {width} {height}", f"start {start}"]
@@ -81,8 +90,10 @@ class Expected:
         self.firsts = [0]
         for length in self.lengths:
             self.firsts.append(self.firsts[-1] + length)
-        self.totals = [sum(kind == k for kind, _ in marks) for k in range(4)]
-        self.jumps = [i for i, (kind, _) in enumerate(marks) if kind == 3]
+        self.totals = [sum(kind == k for kind, _ in marks) for k in range(len(KINDS))]
+        self.jumps = [i for i, (kind, _) in enumerate(marks) if kind == JUMP]
+        self.touches = [i for i, (kind, _) in enumerate(marks) if kind == TOUCH]
+        self.entries = sorted(self.jumps + self.touches)
 
     def held(self):
         """A contour ends with each vertex that no cut is the lower one of."""
@@ -116,7 +127,7 @@ class Expected:
         if kind == 1:
             ends = [self.locate(v)[1] for v in (before, here)]
             return [self.cut(pair), f"vertex {ends[0]:,} to vertex {ends[1]:,}"]
-        if kind == 3:
+        if kind in (JUMP, TOUCH):
             return [f"lands on {self.place(here)}", f"leaves {self.place(before)}"]
         groove = reference + 1
         while self.marks[groove][0] == 2:
@@ -124,13 +135,13 @@ class Expected:
         if self.marks[groove][0] == 1:
             told = f"the cut of {self.cut(groove)}"
         else:
-            told = f"the jump to {self.place(self.vertex[groove])}"
+            told = f"the {KINDS[self.marks[groove][0]]} to {self.place(self.vertex[groove])}"
         if groove != reference + 1:
-            told = f"a back-step too; the groove is pair {groove:,}, {told}"
+            told = f"a back-step too; what it goes over is pair {groove:,}, {told}"
         return [f"reverses pair {reference + 1:,}", told]
 
     def contour(self, pair):
-        """The contour whose groove a pair is or goes back over; of a jump the one landed on."""
+        """The contour whose groove a pair is or goes back over; of a jump or touch the one landed on."""
         while self.marks[pair][0] == 2:
             pair = self.marks[pair][1] + 1
         return self.locate(self.vertex[pair])[0]
@@ -151,13 +162,13 @@ class Expected:
         return math.dist(self.path[pair - 1], self.path[pair])
 
     def sample(self, count, seed=1):
-        """Pairs to look at: the ends, some jumps with the pairs around them, and others."""
+        """Pairs to look at: the ends, some jumps and touches with the pairs around them, and others."""
         if self.pairs <= count:
             return list(range(1, self.pairs + 1))
         chance = random.Random(seed)
         chosen = {1, 2, self.pairs}
-        for jump in chance.sample(self.jumps, min(len(self.jumps), count // 6)):
-            chosen.update({max(jump - 1, 1), jump, min(jump + 1, self.pairs)})
+        for entry in chance.sample(self.entries, min(len(self.entries), count // 6)):
+            chosen.update({max(entry - 1, 1), entry, min(entry + 1, self.pairs)})
         while len(chosen) < count:
             chosen.add(chance.randint(1, self.pairs))
         return sorted(chosen, key=lambda pair: chance.random())

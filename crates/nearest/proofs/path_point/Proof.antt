@@ -1,9 +1,9 @@
--- `nearest::point_at` meets its contract. Assumes nothing.
+-- `nearest::path_point` meets its contract. Assumes nothing.
 use mathlib.Core.Path.{refl}
 use Rattle.rules.specs.HandedOver.{at}
 use borrow.Author.Needs.{needs}
-use Rattle.nearest.proofs.point_at.Statement.{statement}
-use Rattle.nearest.proofs.point_at.Tie as tie
+use Rattle.nearest.proofs.path_point.Statement.{statement}
+use Rattle.nearest.proofs.path_point.Tie as tie
 
 cast-i : tie.Need-cast-i
 cast-i c = search needs
@@ -30,7 +30,7 @@ returns : tie.Need-returns
 unfolding at
 returns c = refl
 
-pub point-at-spec : {M : Type 1} → statement M
-point-at-spec =
+pub path-point-spec : {M : Type 1} → statement M
+path-point-spec =
     tie.close
     (tie.spec cast-i mul-i mul-t4 shared-slice-read-t6 add-t7 mul-t8 shared-slice-read-t10 returns)

@@ -1,12 +1,11 @@
 //! Layers for plates, and a count of what a run meets of them.
 
-use std::sync::atomic::{AtomicU64, Ordering};
-
 use harness::random::Random;
 use twillharbor::StartPointStrategy::{self, Inside, Outside};
 
 use crate::plates::{LAYERS, Plate};
 use crate::rule::{self, Held, Refused};
+use crate::tally::{Tally, is_met};
 
 /// How the contours of a plate are layered.
 #[derive(Debug, Clone, Copy)]
@@ -196,14 +195,14 @@ const ENOUGH: u64 = 10_000;
 /// in common: those are compared with mujou's own functions too.
 #[derive(Debug, Default)]
 pub struct Met {
-    one_layer: [AtomicU64; LAYERS as usize],
-    cases: [AtomicU64; CASES.len()],
+    one_layer: Tally<{ LAYERS as usize }>,
+    cases: Tally<{ CASES.len() }>,
 }
 
 impl Met {
     fn count_if(&self, holds: bool, case: Case) {
         if holds {
-            self.cases[case as usize].fetch_add(1, Ordering::Relaxed);
+            self.cases.count(case as usize);
         }
     }
 
@@ -224,7 +223,7 @@ impl Met {
 
     fn sound(&self, plate: &Plate, strategy: StartPointStrategy, held: Held) {
         if let Some(layer) = plate.one_layer() {
-            self.one_layer[layer as usize].fetch_add(1, Ordering::Relaxed);
+            self.one_layer.count(layer as usize);
         }
         let mut times = [0_usize; LAYERS as usize];
         plate.held_layers().for_each(|layer| times[layer as usize] += 1);
@@ -288,19 +287,12 @@ impl Met {
     /// Prints how often each case was met, and says whether a run of that many plates met every
     /// one that it should.
     pub fn print(&self, plates: u64) -> bool {
-        let one_layer = self.one_layer.each_ref().map(|n| n.load(Ordering::Relaxed));
-        let cases = self.cases.each_ref().map(|n| n.load(Ordering::Relaxed));
+        let one_layer = self.one_layer.numbers();
         println!("plates in one layer, from layer 0 to 15, compared with mujou's own functions:");
         println!("    {}", one_layer.map(|n| n.to_string()).join(" "));
         println!("met of layers:");
-        for ((_, name), met) in CASES.iter().zip(cases) {
-            println!("{met:>12} {name}");
-        }
-        let all = one_layer.iter().chain(&cases).all(|&met| met > 0);
-        if plates >= ENOUGH && !all {
-            println!("NOT MET: what stands at 0 above");
-        }
-        plates < ENOUGH || all
+        self.cases.print(CASES.map(|(_, name)| name));
+        is_met(plates, ENOUGH, one_layer.into_iter().chain(self.cases.numbers()))
     }
 }
 
@@ -343,8 +335,8 @@ mod tests {
         let plate = Plate { layers: layers.to_vec(), ..plate };
         let met = Met::default();
         met.plate(&plate, Inside, checked(&plate).map(|()| Held::default()));
-        let counts = CASES.into_iter().zip(met.cases);
-        counts.filter(|(_, met)| met.load(super::Ordering::Relaxed) > 0).map(|(c, _)| c.0).collect()
+        let counts = CASES.into_iter().zip(met.cases.numbers());
+        counts.filter(|(_, met)| *met > 0).map(|(case, _)| case.0).collect()
     }
 
     #[test]
@@ -372,7 +364,7 @@ mod tests {
         assert!(met.print(9_999));
         assert!(!met.print(10_000));
         CASES.iter().for_each(|&(case, _)| met.count_if(true, case));
-        met.one_layer.iter().for_each(|n| n.store(1, super::Ordering::Relaxed));
+        (0..super::LAYERS as usize).for_each(|layer| met.one_layer.count(layer));
         assert!(met.print(10_000));
     }
 }

@@ -25,6 +25,7 @@ mod retrace_plates;
 mod retracing;
 mod rule;
 mod run;
+mod tally;
 mod touches;
 
 use std::env;

@@ -6,6 +6,7 @@ use std::sync::atomic::{AtomicU64, Ordering};
 use crate::plates::Plate;
 use crate::rule::Retrace;
 use crate::rule::retrace::{BACK_STEP, CUT, JUMP, TOUCH};
+use crate::tally::{Tally, is_met};
 
 /// What a run meets, in the order of [`CASES`].
 #[derive(Debug, Clone, Copy, PartialEq, Eq)]
@@ -81,7 +82,7 @@ pub struct Seen {
     paths: AtomicU64,
     jumps: AtomicU64,
     touches: AtomicU64,
-    cases: [AtomicU64; CASES.len()],
+    cases: Tally<{ CASES.len() }>,
 }
 
 /// A jump or a touch: the path place and vertex that are left, and the vertex landed on.
@@ -184,7 +185,7 @@ impl<'a> Path<'a> {
 impl Seen {
     fn count_if(&self, holds: bool, case: Case) {
         if holds {
-            self.cases[case as usize].fetch_add(1, Ordering::Relaxed);
+            self.cases.count(case as usize);
         }
     }
 
@@ -275,16 +276,9 @@ impl Seen {
     pub fn print(&self, plates: u64) -> bool {
         let [paths, jumps, touches] =
             [&self.paths, &self.jumps, &self.touches].map(|n| n.load(Ordering::Relaxed));
-        let cases = self.cases.each_ref().map(|n| n.load(Ordering::Relaxed));
         println!("in {paths} paths: {jumps} jumps, {touches} touches; of these and beside them");
-        for ((_, name), met) in CASES.iter().zip(cases) {
-            println!("{met:>12} {name}");
-        }
-        let all = cases.iter().chain(&[jumps, touches]).all(|&met| met > 0);
-        if plates >= ENOUGH && !all {
-            println!("NOT MET: what stands at 0 above");
-        }
-        plates < ENOUGH || all
+        self.cases.print(CASES.map(|(_, name)| name));
+        is_met(plates, ENOUGH, self.cases.numbers().into_iter().chain([jumps, touches]))
     }
 }
 
@@ -315,8 +309,8 @@ mod tests {
         let due = retrace(&plate, Inside, usize::MAX).unwrap().unwrap();
         let seen = Seen::default();
         seen.path(&plate, &due);
-        let cases = CASES.into_iter().zip(seen.cases);
-        let met = cases.filter(|(_, met)| met.load(Ordering::Relaxed) > 0).map(|(case, _)| case.0);
+        let cases = CASES.into_iter().zip(seen.cases.numbers());
+        let met = cases.filter(|(_, met)| *met > 0).map(|(case, _)| case.0);
         (met.collect(), [seen.jumps, seen.touches].map(|n| n.load(Ordering::Relaxed)))
     }
 
@@ -392,8 +386,7 @@ mod tests {
         let met = |written| {
             let seen = Seen::default();
             seen.full(&due, written);
-            [Case::FullBefore, Case::FullAfter]
-                .map(|case| seen.cases[case as usize].load(Ordering::Relaxed))
+            [Case::FullBefore, Case::FullAfter].map(|case| seen.cases.numbers()[case as usize])
         };
         assert_eq!([0, 1, 2, 3].map(met), [[0, 0], [0, 0], [1, 0], [0, 1]]);
     }
@@ -403,13 +396,14 @@ mod tests {
         let seen = Seen::default();
         assert!(seen.print(ENOUGH - 1));
         assert!(!seen.print(ENOUGH));
-        CASES.iter().for_each(|&(case, _)| seen.count_if(true, case));
-        assert!(!seen.print(ENOUGH));
+        let (last, others) = CASES.split_last().unwrap();
+        others.iter().for_each(|&(case, _)| seen.count_if(true, case));
         seen.jumps.store(1, Ordering::Relaxed);
-        assert!(!seen.print(ENOUGH));
         seen.touches.store(1, Ordering::Relaxed);
+        assert!(!seen.print(ENOUGH));
+        seen.count_if(true, last.0);
         assert!(seen.print(ENOUGH));
-        seen.cases[Case::NoDistance as usize].store(0, Ordering::Relaxed);
+        seen.jumps.store(0, Ordering::Relaxed);
         assert!(!seen.print(ENOUGH));
     }
 }

@@ -1,13 +1,12 @@
 -- `joining::join_from` meets its contract. Assumes nothing.
 use mathlib.Core.Path.{_≡_, refl, _∙_}
-use mathlib.Core.Bool.{Bool, true, false}
 use mathlib.Core.List.{[]}
-use Rattle.rules.specs.Tools.{pick}
-use Prim.Native.Nat.{ℕ, _-_, _≤_}
+use Prim.Native.Nat.{_-_}
 use native.Mathlib.Omega.{arith}
 use Rattle.rules.specs.HandedOver.{Plate, plate}
-use Rattle.rules.specs.RetraceAndMarks.{begin}
+use Rattle.rules.specs.RetraceAndMarks.{entryOf, begin}
 use Rattle.rules.specs.declared.StartPointStrategy.the-variants.{Outside}
+use Rattle.path.specs.Emission.{entry-in}
 use Rattle.start.specs.Oriented.{contourOf, orientedOf}
 use Rattle.path_points.specs.Wrote.{wrote-none}
 use Rattle.joining.specs.Joining.{Joining}
@@ -15,11 +14,6 @@ use Rattle.joining.proofs.Starting.{seededFirst, Begun, start-full, sta
 use borrow.Author.Needs.{needs}
 use Rattle.joining.proofs.join_from.Statement.{statement}
 use Rattle.joining.proofs.join_from.Tie as tie
-
-pick-le : (b : Bool) (n : ℕ) → pick b n 0 ≤ n
-unfolding pick
-pick-le true n = omega arith
-pick-le false n = omega arith
 
 -- ---- ways back: from where a call is made to the call before it
 
@@ -109,7 +103,7 @@ unfolding contourOf
 first-end-requires c κs = start-of (set-up-of c .before) .pre .3 .small
 
 emit-requires : tie.Need-emit-requires
-unfolding contourOf
+unfolding contourOf orientedOf entryOf
 emit-requires c κs =
     let end = end-of c in
     let laid = set-up-of (end .before) in
@@ -117,7 +111,7 @@ emit-requires c κs =
     let up = laid .set-up in
     let at = s .pre .3 in
     let v = end .first-end .ensures in
-    let l = pick-le (s .args .s .reversed) (s .args .s .contour .last) in (
+    let l = entry-in (orientedOf (s .args .s)) in (
       start-pen _ _ _ _ _ _ _ _ (s .pre .2) (s .pre .1) (up .kept .1 .1 .1 .1 .1 .0) (up .ensures .3 _),
       omega arith,
       s .pre .0 .on-plate,

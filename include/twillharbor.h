@@ -224,6 +224,11 @@ struct twillharbor_retrace_result {
  * coordinates: 0 and -0 are equal, and (0,0) and (1e-200,0) are not, though their squared
  * distance is 0. Equal points that a cut or a back-step joins are a cut or a back-step.
  *
+ * No path point before a jump's or touch's landing is nearer to it than the path point just
+ * before it, but for less than a thousand-millionth part: of their squared distances to the
+ * landing, f and d, d * 1,073,741,824 <= f * 1,073,741,825 holds as whole numbers. So it does in
+ * the beginning that a 6 leaves.
+ *
  * Refusals 1 to 3, 13, 4 and 5; the place of 5 is 0 where the work slice is short, and 1 where
  * the distances slice alone is. Then 6 where there are more than C path points, of which there
  * may be far more than points: the first C are then written with their marks, and nothing after

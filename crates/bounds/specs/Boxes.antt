@@ -77,7 +77,7 @@ widened b x y hx hy s =
     }
 
 -- I holds of the box at the end, where each point keeps it
-from-keeps : (P : Float → Type 0) (I : BoundingBox → Type 0) → ((b : BoundingBox) (x y : Float) → P x → P y → I b → I (widen b x y)) →
+pub from-keeps : (P : Float → Type 0) (I : BoundingBox → Type 0) → ((b : BoundingBox) (x y : Float) → P x → P y → I b → I (widen b x y)) →
     (b : BoundingBox) (xs : List Float) → All P xs → I b → I (boxFrom b xs)
 unfolding boxFrom
 from-keeps P I k b [] a i = i

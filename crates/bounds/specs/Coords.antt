@@ -5,11 +5,11 @@ use Prim.Native.Nat.{ℕ, _*_, _^_, _≤_}
 use native.Mathlib.Nat.{mul-le-mul-right}
 use native.Mathlib.Omega.{arith}
 use lib.Dec.{T}
-use lib.Ieee.{Float, nan, inf, fin, binary64, fits}
+use lib.Ieee.{Float, nan, inf, fin, binary64}
 use lib.Ieee.Positive.{den}
 use lib.Ieee.Scale.{finite}
-use Rattle.rules.specs.HandedOver.{plateLimit}
-use Rattle.path.specs.FiniteDistances.{AtMost, OnPlate, in-range}
+use Rattle.rules.specs.HowNear.{IsF64}
+use Rattle.path.specs.FiniteDistances.{AtMost, OnPlate, on-plate-most}
 use Rattle.bounds.specs.Units.{numPlus, numMinus, At, fits-at}
 
 -- x is (p - n) units, and neither p nor n is above 1,000,000
@@ -29,14 +29,10 @@ most-parts k (inf s) h = absurd h
 most-parts k (fin true m e) h = (omega arith, h)
 most-parts k (fin false m e) h = (h, omega arith)
 
-on-plate-most : (x : Float) → OnPlate x → AtMost 1000000 x
-unfolding plateLimit
-on-plate-most x t = in-range 15625 6 x t
-
 pub on-plate-finite : (x : Float) → OnPlate x → T (finite x)
 on-plate-finite x t = most-finite 1000000 x (on-plate-most x t)
 
-pub coord-of : (x : Float) → T (fits binary64 x) → OnPlate x → (p : ℕ) × (n : ℕ) × Coord x p n
+pub coord-of : (x : Float) → IsF64 x → OnPlate x → (p : ℕ) × (n : ℕ) × Coord x p n
 coord-of x h t =
     let u = fits-at binary64 x h (on-plate-finite x t) in
     let m = most-parts 1000000 x (on-plate-most x t) in

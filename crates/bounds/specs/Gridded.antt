@@ -1,8 +1,8 @@
 -- The grid of every sound box: 2 to 54 columns and rows, and how near its numbers are to the exact ones. Assumes nothing.
 use Prim.Native.Nat.{ℕ, _+_, _*_, _^_, _≤_, _<_}
 use native.Mathlib.Omega.{arith}
-use lib.Dec.{T}
-use lib.Ieee.{Float, binary64, sub, fits}
+use lib.Ieee.{Float, binary64, sub}
+use Rattle.rules.specs.HowNear.{IsF64}
 use Rattle.rules.specs.GridAndNearest.{cellsAlong, cellSize, gridOf}
 use Rattle.rules.specs.declared.BoundingBox.{BoundingBox}
 use Rattle.rules.specs.declared.SpatialGrid.{SpatialGrid}
@@ -69,7 +69,7 @@ axis-of lo hi s S wx wy c z w =
     wide : (x y w S : ℕ) → x * 2 ^ 20 ≤ y * 2 ^ 20 + w * (2 ^ 20 + 1) → w * 2 ^ 20 ≤ S * 50 * (2 ^ 20 + 1) → x * 1024 ≤ y * 1024 + S * 51250
     wide x y w S h g = omega arith
 
-pub gridded : (b : BoundingBox) → Sides (λ x. T (fits binary64 x)) b → Sound b → Gridded b (gridOf b)
+pub gridded : (b : BoundingBox) → Sides IsF64 b → Sound b → Gridded b (gridOf b)
 unfolding gridOf
 gridded b f s =
     let o = s .on-plate in

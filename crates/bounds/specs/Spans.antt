@@ -3,7 +3,8 @@ use Prim.Native.Nat.{ℕ, _+_, _-_, _*_, _^_, _≤_}
 use native.Mathlib.Nat.{add-sub-of-le}
 use native.Mathlib.Omega.{arith}
 use lib.Dec.{T}
-use lib.Ieee.{Float, binary64, sub, le, fits}
+use lib.Ieee.{Float, binary64, sub, le}
+use Rattle.rules.specs.HowNear.{IsF64}
 use Rattle.path.specs.FiniteDistances.{OnPlate}
 use Rattle.bounds.specs.Units.{At}
 use Rattle.bounds.specs.Order.{le-under, under-at}
@@ -38,7 +39,7 @@ w-most L d w h g = omega arith
 w-least : (x y w : ℕ) → x ≤ y → (y - x) * 2 ^ 53 ≤ w * (2 ^ 53 + 1) → y * 2 ^ 20 ≤ x * 2 ^ 20 + w * (2 ^ 20 + 1)
 w-least x y w h g = omega arith
 
-pub span-of : (lo hi : Float) → T (fits binary64 lo) → T (fits binary64 hi) → OnPlate lo → OnPlate hi → T (le lo hi) → Span lo hi
+pub span-of : (lo hi : Float) → IsF64 lo → IsF64 hi → OnPlate lo → OnPlate hi → T (le lo hi) → Span lo hi
 span-of lo hi fl fh a b u =
     let L = 2 ^ 1074 in
     let x = coord-of lo fl a in

@@ -3,14 +3,14 @@ use mathlib.Core.List.{List}
 use Prim.Native.Nat.{ℕ, _+_, _*_, _^_, _≤_, _<_}
 use native.Mathlib.Nat.{mul-pos}
 use native.Mathlib.Omega.{arith}
-use lib.Dec.{T}
 use lib.Pow.{pow-pos}
-use lib.Ieee.{Float, binary64, fits}
+use lib.Ieee.{Float, binary64}
 use lib.Ieee.Fits.{inf-fits}
 use lib.Ieee.Positive.{first-pos}
 use Rattle.rules.specs.Tools.{sum}
 use Rattle.rules.specs.Box.{box}
 use Rattle.rules.specs.GridAndNearest.{gridOf}
+use Rattle.rules.specs.HowNear.{IsF64}
 use Rattle.rules.specs.declared.BoundingBox.{BoundingBox}
 use Rattle.path.specs.Lists.{All}
 use Rattle.path.specs.Accepted.{Accepted}
@@ -19,17 +19,13 @@ use Rattle.bounds.specs.Boxes.{Sides, Sound, box-sides, accepted-sound}
 use Rattle.bounds.specs.Gridded.{gridded}
 use Rattle.grid.specs.Sane.{Sane}
 
--- a float that binary64 holds, as every f64 of the code is
-abbrev pub Held : Float → Type 0
-Held x = T (fits binary64 x)
-
 inverse-some : (L I S : ℕ) → 0 < L → L * L * 2 ^ 53 ≤ I * S * (2 ^ 53 + 1) → 0 < I
 inverse-some L I S l h = first-pos I S (go (L * L) (I * S) (mul-pos l l) h)
   where
     go : (u v : ℕ) → 0 < u → u * 2 ^ 53 ≤ v * (2 ^ 53 + 1) → 0 < v
     go u v h g = omega arith
 
-pub sane-of : (b : BoundingBox) → Sides Held b → Sound b → Sane (gridOf b)
+pub sane-of : (b : BoundingBox) → Sides IsF64 b → Sound b → Sane (gridOf b)
 sane-of b f s =
     let g = gridded b f s in
     record {
@@ -42,5 +38,5 @@ sane-of b f s =
     }
 
 -- a plate that refusals 1 to 4 let pass
-pub plate-grid : (xs : List Float) (ns : List ℕ) → All Held xs → Accepted xs ns → 0 < sum ns → Sane (gridOf (box xs))
-plate-grid xs ns f a h = sane-of (box xs) (box-sides Held xs (inf-fits binary64) f) (accepted-sound xs ns a h)
+pub plate-grid : (xs : List Float) (ns : List ℕ) → All IsF64 xs → Accepted xs ns → 0 < sum ns → Sane (gridOf (box xs))
+plate-grid xs ns f a h = sane-of (box xs) (box-sides IsF64 xs (inf-fits binary64) f) (accepted-sound xs ns a h)

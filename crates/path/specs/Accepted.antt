@@ -1,6 +1,6 @@
 -- What a call that gives a result has passed: refusals 1 to 3, 13 and 4; and so the squared distances of the plate's points are finite, their signs plus.
 -- Assumes nothing.
-use mathlib.Core.Path.{_≡_, refl}
+use mathlib.Core.Path.{_≡_, refl, sym, subst}
 use mathlib.Core.Bool.{Bool, true, false}
 use mathlib.Core.List.{List, [], _∷_}
 use Prim.Native.Nat.{ℕ, suc, _+_, _*_, _≤_, _<_}
@@ -10,7 +10,7 @@ use lib.Ieee.{Float, nan}
 use lib.ListN.{length}
 use borrow.Author.Tests.{ltb-false, leb-true, eqb-true, not-false}
 use Rattle.rules.specs.Tools.{pick, sum, highestLayer}
-use Rattle.rules.specs.HandedOver.{Plate, at, Answer, gives, inRange, plateLimit, firstOff, firstBad, refuseIf, counted, layered, onPlate, checkedContours, checked}
+use Rattle.rules.specs.HandedOver.{Plate, at, Answer, gives, refuses, inRange, plateLimit, firstOff, firstBad, refuseIf, counted, layered, onPlate, checkedContours, checked}
 use Rattle.rules.specs.Distances.{distanceSquared}
 use Rattle.path.specs.Lists.{All, all-at}
 use Rattle.path.specs.FloatOrder.{Plus}
@@ -18,12 +18,21 @@ use Rattle.path.specs.FiniteDistances.{OnPlate, distance-plus}
 
 -- ---- refusals
 
--- a condition that did not refuse
+-- an answer that is no refusal with this number
+abbrev pub Other : {A : Type 0} → ℕ → Answer A → Type 0
+Other number (gives a) = Unit {0}
+Other number (refuses n place) = n ≡ number → ⊥
+
+-- a condition that did not refuse: the answer is another
+pub refuse-other : {A : Type 0} (t : Bool) (number place : ℕ) (later b : Answer A) → Other number b → refuseIf t number place later ≡ b →
+    (t ≡ false) × (later ≡ b)
+unfolding refuseIf
+refuse-other true number place later b o e = absurd (subst (Other number) (sym e) o refl)
+refuse-other false number place later b o e = (refl, e)
+
 pub refuse-gives : {A : Type 0} (t : Bool) (number place : ℕ) (later : Answer A) (c : A) → refuseIf t number place later ≡ gives c →
     (t ≡ false) × (later ≡ gives c)
-unfolding refuseIf
-refuse-gives true number place later c e = let z : _≡_ {A = ℕ} 0 1 = cc in absurd (omega arith)
-refuse-gives false number place later c e = (refl, e)
+refuse-gives t number place later c e = refuse-other t number place later (gives c) tt e
 
 -- where the first coordinate out of range is the place after the last, all are in range
 pub first-off : (limit : Float) (i : ℕ) (xs : List Float) → i + length xs ≤ firstOff limit i xs → All (λ x. T (inRange limit x)) xs
@@ -59,29 +68,37 @@ pub record Layered (m : ℕ) (ls : List ℕ) : Type 0 where
   pub counted : length ls ≡ m
   pub shallow : All (λ l. l ≤ highestLayer) ls
 
-pub counted-gives : {A : Type 0} (xs : List Float) (ns : List ℕ) (later : Answer A) (c : A) → counted xs ns later ≡ gives c →
-    (length ns ≤ 4096) × (sum ns ≤ 65536) × (length xs ≡ 2 * sum ns) × (later ≡ gives c)
+-- what an answer that is none of refusals 1 to 3, not 4, or none of 1 to 4 and 13, has passed
+counted-other : {A : Type 0} (xs : List Float) (ns : List ℕ) (later b : Answer A) → Other 1 b → Other 2 b → Other 3 b → counted xs ns later ≡ b →
+    (length ns ≤ 4096) × (sum ns ≤ 65536) × (length xs ≡ 2 * sum ns) × (later ≡ b)
 unfolding counted
-counted-gives xs ns later c e =
-    let e1 = refuse-gives _ _ _ _ c e in
-    let e2 = refuse-gives _ _ _ _ c (e1 .1) in
-    let e3 = refuse-gives _ _ _ _ c (e2 .1) in
+counted-other xs ns later b o1 o2 o3 e =
+    let e1 = refuse-other _ _ _ _ b o1 e in
+    let e2 = refuse-other _ _ _ _ b o2 (e1 .1) in
+    let e3 = refuse-other _ _ _ _ b o3 (e2 .1) in
     (ltb-false 4096 (length ns) (e1 .0), ltb-false 65536 (sum ns) (e2 .0), eqb-true (length xs) (2 * sum ns) (not-false _ (e3 .0)), e3 .1)
 
-on-plate-gives : {A : Type 0} (xs : List Float) (later : Answer A) (c : A) → onPlate xs later ≡ gives c → All OnPlate xs × (later ≡ gives c)
+on-plate-other : {A : Type 0} (xs : List Float) (later b : Answer A) → Other 4 b → onPlate xs later ≡ b → All OnPlate xs × (later ≡ b)
 unfolding onPlate
-on-plate-gives xs later c e =
-    let e1 = refuse-gives _ _ _ _ c e in
+on-plate-other xs later b o e =
+    let e1 = refuse-other _ _ _ _ b o e in
     (first-off plateLimit 0 xs (omega (arith, ltb-false (firstOff plateLimit 0 xs) (length xs) (e1 .0))), e1 .1)
 
-pub checked-gives : {A : Type 0} (xs : List Float) (ns ls : List ℕ) (later : Answer A) (c : A) → checked xs ns ls later ≡ gives c →
-    Accepted xs ns × Layered (length ns) ls × (later ≡ gives c)
+pub record OtherThanChecks {A : Type 0} (b : Answer A) : Type 0 where
+  pub contours : Other 1 b
+  pub points : Other 2 b
+  pub counted : Other 3 b
+  pub layers : Other 13 b
+  pub on-plate : Other 4 b
+
+pub checked-other : {A : Type 0} (xs : List Float) (ns ls : List ℕ) (later b : Answer A) → OtherThanChecks b → checked xs ns ls later ≡ b →
+    Accepted xs ns × Layered (length ns) ls × (later ≡ b)
 unfolding checked layered
-checked-gives xs ns ls later c e =
-    let n = counted-gives xs ns _ c e in
-    let e1 = refuse-gives _ _ _ _ c (n .3) in
-    let e2 = refuse-gives _ _ _ _ c (e1 .1) in
-    let p = on-plate-gives xs later c (e2 .1) in (
+checked-other xs ns ls later b o e =
+    let n = counted-other xs ns _ b (o .contours) (o .points) (o .counted) e in
+    let e1 = refuse-other _ _ _ _ b (o .layers) (n .3) in
+    let e2 = refuse-other _ _ _ _ b (o .layers) (e1 .1) in
+    let p = on-plate-other xs later b (o .on-plate) (e2 .1) in (
       record { contours = n .0; points = n .1; counted = n .2; on-plate = p .0 },
       record {
         counted = eqb-true (length ls) (length ns) (not-false _ (e1 .0));
@@ -90,12 +107,22 @@ checked-gives xs ns ls later c e =
       p .1,
     )
 
+-- and what a result has passed
+pub counted-gives : {A : Type 0} (xs : List Float) (ns : List ℕ) (later : Answer A) (c : A) → counted xs ns later ≡ gives c →
+    (length ns ≤ 4096) × (sum ns ≤ 65536) × (length xs ≡ 2 * sum ns) × (later ≡ gives c)
+counted-gives xs ns later c e = counted-other xs ns later (gives c) tt tt tt e
+
+pub checked-gives : {A : Type 0} (xs : List Float) (ns ls : List ℕ) (later : Answer A) (c : A) → checked xs ns ls later ≡ gives c →
+    Accepted xs ns × Layered (length ns) ls × (later ≡ gives c)
+checked-gives xs ns ls later c e =
+    checked-other xs ns ls later (gives c) (record { contours = tt; points = tt; counted = tt; layers = tt; on-plate = tt }) e
+
 pub contours-gives : {A : Type 0} (xs : List Float) (ns : List ℕ) (later : Answer A) (c : A) → checkedContours xs ns later ≡ gives c →
     Accepted xs ns × (later ≡ gives c)
 unfolding checkedContours
 contours-gives xs ns later c e =
     let n = counted-gives xs ns _ c e in
-    let p = on-plate-gives xs later c (n .3) in
+    let p = on-plate-other xs later (gives c) tt (n .3) in
     (record { contours = n .0; points = n .1; counted = n .2; on-plate = p .0 }, p .1)
 
 -- ---- points and distances

@@ -31,11 +31,11 @@ use Rattle.path.specs.Emission.{walk-chain, walk-end, emit-chain, StepOf
 -- ---- the points of a path, and their copies
 
 -- s has the vertex of a point of the path
-abbrev Copy : List Step → Step → Type 0
+abbrev pub Copy : List Step → Step → Type 0
 Copy path s = (j : ℕ) × (j < length path) × (s .vertex ≡ vertexOf path j)
 
 -- after a walk back there are copies only
-walk-copies : (path : List Step) (h : ℕ) → h < length path → All (Copy path) (path ++ walkBack path h)
+pub walk-copies : (path : List Step) (h : ℕ) → h < length path → All (Copy path) (path ++ walkBack path h)
 unfolding walkBack walkTo backStep vertexOf stepAt
 walk-copies path h l =
     all-append (Copy path) path (walkBack path h) (all-places (Copy path) (land startKind 0) path (λ i x. (i, x, refl)))
@@ -43,11 +43,11 @@ walk-copies path h l =
     (all-downTo (λ i. Copy path (walkTo path i)) h (length path - 1 - h) (λ i x y. (i, omega arith, refl))))
 
 -- what holds of all vertices of a path holds at each place, and of copies
-vertex-has : (P : ℕ → Type 0) (path : List Step) → All (λ s. P (s .vertex)) path → (k : ℕ) → k < length path → P (vertexOf path k)
+pub vertex-has : (P : ℕ → Type 0) (path : List Step) → All (λ s. P (s .vertex)) path → (k : ℕ) → k < length path → P (vertexOf path k)
 unfolding vertexOf stepAt
 vertex-has P path a k l = all-at (λ s. P (s .vertex)) (land startKind 0) path a k l
 
-copies-have : (P : ℕ → Type 0) (path back : List Step) → All (λ s. P (s .vertex)) path → All (Copy path) back → All (λ s. P (s .vertex)) back
+pub copies-have : (P : ℕ → Type 0) (path back : List Step) → All (λ s. P (s .vertex)) path → All (Copy path) back → All (λ s. P (s .vertex)) back
 copies-have P path back a = all-give (Copy path) (λ s. P (s .vertex)) (λ s c. rw (c .2) (vertex-has P path a (c .0) (c .1))) back
 
 -- the path has no vertex of c
@@ -55,7 +55,7 @@ abbrev FreeOf : Contour → List Step → Type 0
 FreeOf c path = All (λ s. NotOf c (s .vertex)) path
 
 -- it has vertices of the plate
-abbrev Numbered : Plate → List Step → Type 0
+abbrev pub Numbered : Plate → List Step → Type 0
 Numbered p path = All (λ s. OfPlate p (s .vertex)) path
 
 -- ---- the jump or touch
@@ -180,7 +180,7 @@ record Joined (p : Plate) (cs : List Contour) (path : List Step) : Type 0 where
   free : All (λ c. FreeOf c path) cs
   numbered : Numbered p path
 
-of-plate : (p : Plate) (c : Contour) → IsContour p c → (v : ℕ) → Of c v → OfPlate p v
+pub of-plate : (p : Plate) (c : Contour) → IsContour p c → (v : ℕ) → Of c v → OfPlate p v
 of-plate p c i v o = omega (arith, contour-in p c i)
 
 module _ (p : Plate) (m : Measurable p) where

@@ -112,7 +112,7 @@ sum-most s t a b c hc ha hb = go (Bool·beq s t) (ltb a b)
     go false true = round-most 21 exact-21 t (b - a) c hc (omega arith)
     go false false = round-most 21 exact-21 (s && ltb b a) (a - b) c hc (omega arith)
 
-sub-most : (x y : Float) → AtMost 1000000 x → AtMost 1000000 y → AtMost (2 ^ 21) (sub binary64 x y)
+pub sub-most : (x y : Float) → AtMost 1000000 x → AtMost 1000000 y → AtMost (2 ^ 21) (sub binary64 x y)
 unfolding sub add neg
 sub-most nan y h k = absurd h
 sub-most (inf s) y h k = absurd h
@@ -128,11 +128,11 @@ sub-most (fin s m e) (fin t n d) h k =
 square-le : (a c : ℕ) → a ≤ 2 ^ 21 * c → a * a ≤ 2 ^ 42 * (c * c)
 square-le a c h = omega (arith, mul-le-mul h h)
 
-unlike-self : (s : Bool) → unlike s s ≡ false
+pub unlike-self : (s : Bool) → unlike s s ≡ false
 unlike-self true = refl
 unlike-self false = refl
 
-square-most : (x : Float) → AtMost (2 ^ 21) x → AtMost (2 ^ 42) (mul binary64 x x) × SignPlus (mul binary64 x x)
+pub square-most : (x : Float) → AtMost (2 ^ 21) x → AtMost (2 ^ 42) (mul binary64 x x) × SignPlus (mul binary64 x x)
 unfolding mul
 square-most nan h = absurd h
 square-most (inf s) h = absurd h
@@ -184,7 +184,7 @@ in-range l j (fin false m e) t =
 abbrev pub OnPlate : Float → Type 0
 OnPlate x = T (inRange plateLimit x)
 
-on-plate-most : (x : Float) → OnPlate x → AtMost 1000000 x
+pub on-plate-most : (x : Float) → OnPlate x → AtMost 1000000 x
 unfolding plateLimit
 on-plate-most x t = in-range 15625 6 x t
 

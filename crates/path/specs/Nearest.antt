@@ -47,7 +47,7 @@ module _ (P : PathPoint → Type 0) (g : SpatialGrid) (q z : Point) where
 -- ---- what is found
 
 -- what is found, if anything, is a place and a distance that has P
-abbrev FoundWith : (ℕ → Float → Type 0) → Nearest → Type 0
+abbrev pub FoundWith : (ℕ → Float → Type 0) → Nearest → Type 0
 FoundWith P Nothing = Unit {0}
 FoundWith P (Found k d) = P (k .0) d
 
@@ -62,10 +62,10 @@ nearer-found P (Found k d) c h f = go (wins c (k .0) d)
 
 module _ (g : SpatialGrid) (ps : List Point) (q z : Point) where
   -- a place of the path, and the squared distance to its point
-  abbrev OfPath : ℕ → Float → Type 0
+  abbrev pub OfPath : ℕ → Float → Type 0
   OfPath k d = (k < length ps) × (d ≡ distanceSquared q (getD ps k z))
 
-  nearest-found : FoundWith OfPath (nearest g ps q)
+  pub nearest-found : FoundWith OfPath (nearest g ps q)
   unfolding nearest
   nearest-found =
       scan-keeps (λ c. OfPath (c .place) (c .squared)) (FoundWith OfPath) (nearer-found OfPath) g (cellOf g q) (seenFrom g q 0 ps)
@@ -120,11 +120,11 @@ nearest-nine g h ps q z m i l t = go (nearest g ps q) (nearest-found g ps q z) (
 unfoldable pub pointOf : Plate → List Step → ℕ → Point
 pointOf p path k = at (p .points) (vertexOf path k)
 
-points-length : (p : Plate) (path : List Step) → length (pathPoints p path) ≡ length path
+pub points-length : (p : Plate) (path : List Step) → length (pathPoints p path) ≡ length path
 unfolding pathPoints
 points-length p path = length-map path (λ (s : Step). at (p .points) (s .vertex))
 
-points-at : (p : Plate) (path : List Step) (k : ℕ) → getD (pathPoints p path) k (at (p .points) 0) ≡ pointOf p path k
+pub points-at : (p : Plate) (path : List Step) (k : ℕ) → getD (pathPoints p path) k (at (p .points) 0) ≡ pointOf p path k
 unfolding pathPoints pointOf vertexOf stepAt land
 points-at p path k = List·getD-map (λ (s : Step). at (p .points) (s .vertex)) path k (land startKind 0)
 

@@ -68,7 +68,7 @@ abbrev pub Settled : PathPoint → Nearest → Type 0
 Settled c Nothing = ⊥
 Settled c (Found i d) = T (not (lt (c .squared) d))
 
-nearer-measured : (b : Nearest) (c : PathPoint) → Measured c → MeasuredBest b → MeasuredBest (nearer b c)
+pub nearer-measured : (b : Nearest) (c : PathPoint) → Measured c → MeasuredBest b → MeasuredBest (nearer b c)
 unfolding nearer found pick
 nearer-measured Nothing c h m = h
 nearer-measured (Found i d) c h m = go (wins c (i .0) d)
@@ -97,10 +97,10 @@ wins-le c i d t = go (lt (c .squared) d) (eq (c .squared) d) t
     go false false t = t
 
 -- what is settled stays settled: a later best is not farther
-abbrev Kept : PathPoint → Nearest → Type 0
+abbrev pub Kept : PathPoint → Nearest → Type 0
 Kept c b = MeasuredBest b × Settled c b
 
-nearer-keeps : (c : PathPoint) → Measured c → (b : Nearest) (n : PathPoint) → Measured n → Kept c b → Kept c (nearer b n)
+pub nearer-keeps : (c : PathPoint) → Measured c → (b : Nearest) (n : PathPoint) → Measured n → Kept c b → Kept c (nearer b n)
 unfolding nearer found pick
 nearer-keeps c h Nothing n m k = absurd (k .1)
 nearer-keeps c h (Found i d) n m k = go (wins n (i .0) d) (λ w. w)
@@ -122,7 +122,7 @@ visit-settles g q r b c t = go (onBorder (square g q r) (c .cell)) t
     go true t = nearer-settles b c
 
 -- a ring settles what lies on it
-ring-settles : (g : SpatialGrid) (q : Cell) (cs : List PathPoint) → All Measured cs → (r : ℕ) (b : Nearest) → MeasuredBest b →
+pub ring-settles : (g : SpatialGrid) (q : Cell) (cs : List PathPoint) → All Measured cs → (r : ℕ) (b : Nearest) → MeasuredBest b →
     All (λ c. T (onBorder (square g q r) (c .cell)) → Settled c (scanRing g q cs r b)) cs
 unfolding scanRing
 ring-settles g q [] a r b m = tt

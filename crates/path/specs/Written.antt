@@ -96,11 +96,11 @@ module _ (p : Plate) (path : List Float) (v : ℕ → ℕ) (n : ℕ) (has : (i :
       ))
 
 -- the first n path points are those of a slice's first 2n numbers
-at-take : (n : ℕ) (xs : List Float) (k : ℕ) → k < n → at (take (2 * n) xs) k ≡ at xs k
+pub at-take : (n : ℕ) (xs : List Float) (k : ℕ) → k < n → at (take (2 * n) xs) k ≡ at xs k
 unfolding at
 at-take n xs k h = rw (getD-take (2 * n) xs (2 * k) nan (omega arith), getD-take (2 * n) xs (2 * k + 1) nan (omega arith))
 
-kind-take : (n : ℕ) (ms : List ℕ) (k : ℕ) → k < n → kindAt (take (2 * n) ms) k ≡ kindAt ms k
+pub kind-take : (n : ℕ) (ms : List ℕ) (k : ℕ) → k < n → kindAt (take (2 * n) ms) k ≡ kindAt ms k
 unfolding kindAt
 kind-take n ms k h = getD-take (2 * n) ms (2 * k) 0 (omega arith)
 

@@ -14,9 +14,12 @@ use Rattle.rules.specs.Calls.{counts, vertices, retraceCall}
 use Rattle.rules.specs.declared.Counts.{Counts}
 use Rattle.rules.specs.declared.Refusal.{Refusal}
 use Rattle.rules.specs.PathStatement.{contourCount, Divides, PathStatement, NeverFall, LayerStatement}
+use Rattle.rules.specs.Box.{box}
+use Rattle.rules.specs.HowNear.{LandingsNear, writtenPoints, AllF64, HowNear}
 use Rattle.path.specs.Slices.{marks-length}
 use Rattle.path.specs.Theorem.{path-statement}
 use Rattle.path.specs.NeverFall.{layer-statement}
+use Rattle.near.specs.Theorem.{how-near}
 use Rattle.plate.specs.Refused.{checked-refuses, checked-passes}
 use Rattle.slices.specs.Pairs.{pairs-take, coordinates-take}
 use Rattle.slices.specs.Outcome.{after-checked, work-same}
@@ -39,6 +42,16 @@ pub divides : (p : Plate) (path : List Float) (ms : List ℕ) (w d : ℕ) (a : A
 unfolding PathStatement LayerStatement
 divides p path ms w d a path′ ms′ x y z n e =
     rw (y, z) (λ k. path-statement p path ms w d n (sym x ∙ e) k .3, layer-statement p path ms w d n (sym x ∙ e))
+
+-- and what has been written, by a result or before refusal 6, has near landings
+abbrev pub Near : Answer Counts → List Float → List ℕ → Type 0
+Near a path′ ms′ = LandingsNear path′ ms′ (writtenPoints a)
+
+pub near : (p : Plate) (path : List Float) (ms : List ℕ) (w d : ℕ) (a : Answer Counts) (path′ : List Float) (ms′ : List ℕ) →
+    AllF64 (p .points) → p .box ≡ box (p .points) →
+    a ≡ retraceCall p path ms w d .answer → path′ ≡ retraceCall p path ms w d .path → ms′ ≡ retraceCall p path ms w d .marks → Near a path′ ms′
+unfolding HowNear
+near p path ms w d a path′ ms′ f64 own x y z = rw (x, y, z) (how-near p path ms w d f64 own)
 
 -- ---- as many as there is room for
 

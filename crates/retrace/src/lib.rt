@@ -6,6 +6,7 @@ ghost use lib.ListN.{length, take};
 ghost use Rattle.rules.specs.Tools.{pick};
 ghost use Rattle.rules.specs.HandedOver.{plate, gives, retraceAnswer, WorkKept};
 ghost use Rattle.rules.specs.PathStatement.{contourCount, Divides, NeverFall};
+ghost use Rattle.rules.specs.HowNear.{LandingsNear, writtenPoints};
 ghost use Rattle.rules.specs.declared.Counts.{Counts};
 ghost use Rattle.rules.specs.RetraceAndMarks.{cutKind, backStepKind, jumpKind, touchKind, marksOf};
 ghost use Rattle.rules.specs.Calls.{retraceCall};
@@ -58,7 +59,8 @@ fn count_marks(marks: &[u32], n: u32) -> Counts
 }
 
 // The retrace call: path points with their marks, and how many cuts, back-steps, jumps and touches there are. What it finishes divides as the path statement
-// (rules/specs/PathStatement.antt) says, for every plate that has a contour, and along it the layers never fall.
+// (rules/specs/PathStatement.antt) says, for every plate that has a contour, and along it the layers never fall. In all that it has written, before refusal 6
+// too, no path point before a jump or touch is much nearer to its landing than the one that it leaves (rules/specs/HowNear.antt).
 pub fn retrace_call(
     points: &[f64],
     lengths: &[u32],
@@ -78,7 +80,8 @@ pub fn retrace_call(
         × (let p = plate (now (points .entry)) (now (lengths .entry)) (now (layers .entry)) width height strategy in
         (n : Counts) → retraceAnswer r ≡ gives n →
         (1 ≤ contourCount p → Divides p n (take (2 * n .points) (now (path .exit))) (take (2 * n .points) (now (marks .exit))))
-        × NeverFall p (n .points) (take (2 * n .points) (now (marks .exit)))) ⌝ }
+        × NeverFall p (n .points) (take (2 * n .points) (now (marks .exit))))
+        × LandingsNear (now (path .exit)) (now (marks .exit)) (writtenPoints (retraceAnswer r)) ⌝ }
 {
     let checked = check(points, lengths, layers);
     if let Checked::Unsound(r) = checked {

@@ -9,6 +9,8 @@ pub mod RetraceAndMarks
 pub mod OrderAndStraight
 pub mod Calls
 pub mod PathStatement
+pub mod HowNear
 pub mod MarkedPlates
 pub mod UndividedPaths
 pub mod FallingPaths
+pub mod NearLandings

@@ -37,16 +37,16 @@ use Rattle.rules.specs.declared.StartPointStrategy.the-variants.{Outside
 -- ---- numbers
 
 -- n, n / 10^k and n / 2^k, each as the nearest float
-whole : ℕ → Float
+unfoldable pub whole : ℕ → Float
 whole n = ofInt binary64 (pos n)
 
-decimal : ℕ → ℕ → Float
+unfoldable pub decimal : ℕ → ℕ → Float
 decimal n k = round binary64 false n (10 ^ k)
 
 binary : ℕ → ℕ → Float
 binary n k = round binary64 false n (2 ^ k)
 
-tenths : ℕ → Float
+unfoldable pub tenths : ℕ → Float
 tenths n = decimal n 1
 
 minusTenths : ℕ → Float
@@ -68,20 +68,20 @@ sixtyFourths n = binary n 6
 
 -- contours between bars
 infixr 2 _∣_
-_∣_ : List (ℕ × ℕ) → List (List (ℕ × ℕ)) → List (List (ℕ × ℕ))
+unfoldable pub _∣_ : List (ℕ × ℕ) → List (List (ℕ × ℕ)) → List (List (ℕ × ℕ))
 c ∣ cs = c ∷ cs
 
 -- points (x, y), in some unit, as an f64 slice has them
-along : (ℕ → Float) → List (ℕ × ℕ) → List Float
+unfoldable pub along : (ℕ → Float) → List (ℕ × ℕ) → List Float
 along unit [] = []
 along unit (p ∷ ps) = unit (p .0) ∷ unit (p .1) ∷ along unit ps
 
-pointsOf : (ℕ → Float) → List (List (ℕ × ℕ)) → List Float
+unfoldable pub pointsOf : (ℕ → Float) → List (List (ℕ × ℕ)) → List Float
 pointsOf unit [] = []
 pointsOf unit (c ∷ cs) = along unit c ++ pointsOf unit cs
 
 -- contours drawn in some unit; width by height
-drawn : (ℕ → Float) → List (List (ℕ × ℕ)) → ℕ → ℕ → StartPointStrategy → Plate
+unfoldable pub drawn : (ℕ → Float) → List (List (ℕ × ℕ)) → ℕ → ℕ → StartPointStrategy → Plate
 drawn unit cs w h s = plate (pointsOf unit cs) (map length cs) (replicate (length cs) 0) w h s
 
 -- points and lengths as they are handed over, right or wrong
@@ -96,7 +96,7 @@ point : Float → Float → Point
 point a b = record { x = a; y = b }
 
 -- marks (kind, reference) and order entries (contour, 1 if reversed), as a u32 slice has them
-pairs : List (ℕ × ℕ) → List ℕ
+unfoldable pub pairs : List (ℕ × ℕ) → List ℕ
 pairs [] = []
 pairs (p ∷ ps) = p .0 ∷ p .1 ∷ pairs ps
 

@@ -1,6 +1,7 @@
 -- The structs of the C interface, by the answers of the calls. Definitions only.
 use Prim.Native.Nat.{ℕ}
 use mathlib.Core.Bool.{Bool, true, false}
+use lib.Dec.{eqb}
 use lib.IntN.{pos}
 use lib.Ieee.{Float, fin}
 use Rattle.rules.specs.Tools.{pick}
@@ -45,3 +46,7 @@ retraceResult (refuses n k) = record { number = n; place = k; points = 0; cuts =
 -- the counts that a struct carries
 unfoldable pub countsOf : RetraceResult → Counts
 countsOf r = record { points = r .points; cuts = r .cuts; «back_steps» = r .«back_steps»; jumps = r .jumps; touches = r .touches }
+
+-- how many path points were written: all of a result's, and before refusal 6 its place, C
+unfoldable pub writtenOf : RetraceResult → ℕ
+writtenOf r = pick (eqb (r .number) 6) (r .place) (r .points)

@@ -4,8 +4,9 @@ ghost use Prim.Native.Nat.{ℕ, _*_, _≤_};
 ghost use lib.ListN.{length, take};
 ghost use Rattle.rules.specs.HandedOver.{plate, refuses, refusal, WorkKept};
 ghost use Rattle.rules.specs.PathStatement.{contourCount, Divides, NeverFall};
+ghost use Rattle.rules.specs.HowNear.{LandingsNear};
 ghost use Rattle.rules.specs.Calls.{distanceCall, startCall, orderCall, straightCall, retraceCall};
-ghost use Rattle.twillharbor.specs.Results.{pointOf, strategyOf, distanceResult, startResult, orderResult, straightResult, retraceResult, countsOf};
+ghost use Rattle.twillharbor.specs.Results.{pointOf, strategyOf, distanceResult, startResult, orderResult, straightResult, retraceResult, countsOf, writtenOf};
 use order::order_call;
 use point::distance_call;
 use retrace::retrace_call;
@@ -238,7 +239,8 @@ pub struct RetraceResult {
     pub touches: u32,
 }
 
-// Where the number is 0 and a contour holds a point, what was written divides as the path statement (rules/specs/PathStatement.antt) says.
+// Where the number is 0 and a contour holds a point, what was written divides as the path statement (rules/specs/PathStatement.antt) says. In all that was
+// written, with number 0 or 6, the landings are near (rules/specs/HowNear.antt).
 #[no_mangle]
 pub extern "C" fn twillharbor_retrace(
     points: &[f64],
@@ -259,7 +261,8 @@ pub extern "C" fn twillharbor_retrace(
         × WorkKept (o .answer) (now (work .entry)) (now (work .exit)) × WorkKept (o .answer) (now (distances .entry)) (now (distances .exit))
         × (r .number ≡ 0 →
         (1 ≤ contourCount p → Divides p (countsOf r) (take (2 * r .points) (now (path .exit))) (take (2 * r .points) (now (marks .exit))))
-        × NeverFall p (r .points) (take (2 * r .points) (now (marks .exit))))) ⌝ }
+        × NeverFall p (r .points) (take (2 * r .points) (now (marks .exit))))
+        × LandingsNear (now (path .exit)) (now (marks .exit)) (writtenOf r)) ⌝ }
 {
     let strategy = strategy_of(inside);
     let answer = retrace_call(

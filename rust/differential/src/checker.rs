@@ -266,7 +266,7 @@ fn same(a: [f64; 2], b: [f64; 2]) -> bool {
     a.map(f64::to_bits) == b.map(f64::to_bits)
 }
 
-fn squared([ax, ay]: [f64; 2], [bx, by]: [f64; 2]) -> f64 {
+pub fn squared([ax, ay]: [f64; 2], [bx, by]: [f64; 2]) -> f64 {
     let (dx, dy) = (ax - bx, ay - by);
     f64::mul_add(dx, dx, dy * dy)
 }

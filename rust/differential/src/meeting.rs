@@ -132,7 +132,7 @@ fn disordered(mut contours: Vec<Vec<Node>>, random: &mut Random) -> Vec<Vec<Node
     contours
 }
 
-fn shuffle<T>(values: &mut [T], random: &mut Random) {
+pub fn shuffle<T>(values: &mut [T], random: &mut Random) {
     for end in (1..values.len()).rev() {
         values.swap(end, random.below(end as u64 + 1) as usize);
     }

@@ -3,7 +3,8 @@
 //! Every call is lent slices between margins of random bits, and all bits are compared
 //! afterwards: of the answer, of inputs and outputs, and of both work slices after every
 //! refusal but 6. The marks are compared with those of the documents as transcribed in `rule`,
-//! and the checker looks at every result.
+//! the checker looks at every result, and how near its landings are is checked of every path that
+//! is written, whole or cut off.
 
 use std::sync::atomic::{AtomicU64, Ordering};
 
@@ -15,6 +16,7 @@ use crate::checker::{self, Claim, Counts};
 use crate::handed::Handed;
 use crate::layers::{Met, in_seeded_layers};
 use crate::lent::Lent;
+use crate::near::HowNear;
 use crate::plates::{Plate, damaged_somehow};
 use crate::reference::retrace;
 use crate::retrace_plates::{KINDS, Kind, LARGE, large_plate, plate};
@@ -37,6 +39,7 @@ struct Tally {
     counts: [AtomicU64; 5],
     met: Met,
     seen: Seen,
+    near: HowNear,
 }
 
 /// The call does not give the last of the numbers, 7.
@@ -89,8 +92,8 @@ pub fn run(plan: Plan) -> bool {
         sound(&large_plate(large, random), Inside, MOST, &tally, 2, random)
     });
     tally.print();
-    let [layers, touches] = [tally.met.print(of_kinds), tally.seen.print(of_kinds)];
-    layers && touches && same
+    let met = [tally.met.print(of_kinds), tally.seen.print(of_kinds), tally.near.print(of_kinds)];
+    met == [true; 3] && same
 }
 
 /// Compares one plate of a run: the kind by its number, and the plate's own seed.
@@ -99,6 +102,7 @@ pub fn run_one(kind: u64, seed: u64) -> Result<bool, String> {
     run::run_one(kind, &KINDS, |kind| {
         let outcome = compare(kind, seed, &tally);
         tally.print();
+        tally.near.print(1);
         outcome
     })
 }
@@ -329,6 +333,7 @@ impl Case<'_> {
         let is = self.called(&mut lent);
         self.same("number, place and counts", &name, &is, &due)?;
         self.left(&name, &lent, is[0], written)?;
+        self.near(&name, &lent, written)?;
         let [0, _, points, cuts, back_steps, jumps, touches] = is else {
             return Ok(());
         };
@@ -376,6 +381,17 @@ impl Case<'_> {
         let altered = if free { distances.margins_altered() } else { distances.altered() };
         self.holds("distances", name, altered)?;
         self.inputs_kept(name)
+    }
+
+    /// How near the landings are among the path points that the call wrote.
+    fn near(&self, name: &str, lent: &LentSlices, written: usize) -> Result<(), String> {
+        let (path, _) = lent.path.slice().as_chunks();
+        let (marks, _) = lent.marks.slice().as_chunks();
+        if written == 0 {
+            return Ok(());
+        }
+        let near = self.tally.near.path(&path[..written], &marks[..written]);
+        near.map_err(|too_far| self.described(&format!("{name}: {too_far}")))
     }
 
     /// What the checker says of a result.
@@ -460,9 +476,10 @@ mod tests {
     use std::sync::atomic::Ordering;
 
     use harness::random::Random;
+    use twillharbor::Size;
     use twillharbor::StartPointStrategy::Inside;
 
-    use super::{Tally, compare};
+    use super::{MOST, Tally, compare, handed};
     use crate::checker::{self, Claim, Counts};
     use crate::meeting::{self, MEETINGS};
     use crate::plates::Plate;
@@ -483,6 +500,25 @@ mod tests {
             let calls = calls.load(Ordering::Relaxed);
             assert!(calls > 50, "{calls} calls, where {number} is due");
         }
+    }
+
+    #[test]
+    fn how_near_is_checked_of_results_and_of_paths_that_are_cut_off() {
+        // Plate G, with two jumps; the second comes last.
+        let points = [[0.0, 0.0], [1.0, 0.0], [0.0, 1.0]].concat();
+        let plate = Plate::new(points, vec![1; 3], Size::default());
+        let (random, tally) = (&mut Random::new(2), Tally::default());
+        let case = handed(&plate, Inside, MOST, &tally, random).unwrap();
+        let mut looked_at = |slices| {
+            let [before, ..] = tally.near.numbers();
+            case.retrace(slices, random).unwrap();
+            let [after, ..] = tally.near.numbers();
+            after - before
+        };
+        let exact = case.enough(8, 8);
+        assert_eq!([exact, case.enough(20, 9)].map(&mut looked_at), [2, 2]);
+        assert_eq!([6, 4, 2, 0].map(|room| looked_at(case.enough(room, room))), [1, 1, 0, 0]);
+        assert_eq!(exact.short_of_work().map(looked_at), [0; 3]);
     }
 
     /// What the checker says of a path with these marks, correctly counted.

@@ -122,6 +122,9 @@ pub struct Counts {
 }
 
 /// What the retrace call gives: the path, and how it comes to each of its points.
+///
+/// A jump or touch leaves the nearest of the path points before it, but for less than a
+/// thousand-millionth part of the squared distance to where it lands.
 #[derive(Debug, Clone, PartialEq)]
 pub struct MarkedPath {
     points: Vec<Point>,

@@ -2,17 +2,18 @@
 use mathlib.Core.Path.{_≡_, sym, subst}
 use lib.Ieee.{ofBits}
 use Rattle.rules.specs.GridAndNearest.{gridOf}
+use Rattle.rules.specs.HowNear.{IsF64}
 use Rattle.rules.specs.declared.BoundingBox.{BoundingBox}
 use Rattle.rules.specs.declared.SpatialGrid.{SpatialGrid}
 use Rattle.bounds.specs.Boxes.{Sound}
 use Rattle.grid.specs.Sane.{Sane}
-use Rattle.grid.specs.PlateGrid.{Held, sane-of}
+use Rattle.grid.specs.PlateGrid.{sane-of}
 use borrow.Author.Needs.{needs}
 use Rattle.grid.proofs.new.Statement.{statement}
 use Rattle.grid.proofs.new.Tie as tie
 
 -- the parameter's fields are f64
-sane : (b : BoundingBox) → Held (b .«min_x») × (Held (b .«min_y») × (Held (b .«max_x») × (Held (b .«max_y») × Unit {0}))) → Sound b → Sane (gridOf b)
+sane : (b : BoundingBox) → IsF64 (b .«min_x») × (IsF64 (b .«min_y») × (IsF64 (b .«max_x») × (IsF64 (b .«max_y») × Unit {0}))) → Sound b → Sane (gridOf b)
 sane b h s = sane-of b (record { left = h .0; right = h .1 .1 .0; bottom = h .1 .0; top = h .1 .1 .1 .0 }) s
 
 cell-size-requires : tie.Need-cell-size-requires

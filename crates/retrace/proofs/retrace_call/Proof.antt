@@ -1,5 +1,5 @@
 -- `retrace::retrace_call` meets its contract. Assumes nothing.
-use mathlib.Core.Path.{_≡_, sym, ap, subst, _∙_}
+use mathlib.Core.Path.{_≡_, refl, sym, ap, subst, _∙_}
 use mathlib.Core.List.{List}
 use Prim.Native.Nat.{ℕ, _+_, _*_, _≤_}
 use native.Mathlib.Omega.{arith}
@@ -7,20 +7,26 @@ use lib.Ieee.{Float}
 use lib.ListN.{length}
 use Rattle.rules.specs.Tools.{sum}
 use Rattle.rules.specs.HandedOver.{Plate, plate, Answer, gives, refusal, checked, retraceAnswer, retraceRoom}
+use Rattle.rules.specs.Box.{box}
+use Rattle.rules.specs.HowNear.{AllF64}
 use Rattle.rules.specs.declared.Counts.{Counts}
 use Rattle.rules.specs.RetraceAndMarks.{retrace}
 use Rattle.path.specs.Accepted.{Accepted, checked-gives}
 use Rattle.plate.specs.Answer.{checkedAnswer}
 use Rattle.path_points.specs.Wrote.{Wrote}
-use Rattle.retrace.proofs.Outcome.{Met, Divided, met-refused, met-short, met-short-distances, met-full, met-whole, counted, divides}
+use Rattle.retrace.proofs.Outcome.{Met, Divided, Near, met-refused, met-short, met-short-distances, met-full, met-whole, counted, divides, near}
 use borrow.Author.Needs.{needs}
 use Rattle.retrace.proofs.retrace_call.Statement.{statement}
 use Rattle.retrace.proofs.retrace_call.Tie as tie
 
 -- ---- ways back: from where a call is made to the call before it
 
+-- where the points are known to be f64, right after the start
+abbrev points-of : tie.After-check → tie.After-shared-slice-known
+points-of c = c .before .before .before .before .before .before .before
+
 abbrev start-of : tie.After-check → tie.Start
-start-of c = c .before .before .before .before .before .before .before .before
+start-of c = points-of c .before
 
 abbrev refused-of : tie.After-known-told → tie.After-check
 refused-of c = c .before .before .before
@@ -41,9 +47,12 @@ join-of c = c .before .before .before .before .before .before .before .before
 abbrev room-of : tie.Else1 → tie.After-least2
 room-of c = c .before
 
--- the start, from where the room is worked out
+-- the points and the start, from where the room is worked out
+abbrev given-of : tie.After-least2 → tie.After-shared-slice-known
+given-of c = points-of (check-of (told-of c))
+
 abbrev origin-of : tie.After-least2 → tie.Start
-origin-of c = start-of (check-of (told-of c))
+origin-of c = given-of c .before
 
 -- ---- what holds there
 
@@ -90,11 +99,30 @@ wrote c =
     subst (λ (m : ℕ). Wrote (s .args .points .now) (retrace (handed s)) m (c .join-retrace .result) (s .args .path .now) (c .join-retrace .last .1 .1 .1 .1 .1 .1 .1 .0) (s .args .marks .now) (c .join-retrace .last .1 .1 .1 .1 .1 .1 .1 .1 .0))
     (room-is room) (c .join-retrace .ensures)
 
--- what meets the outcome divides
-met : (s : tie.Start) {a : Answer Counts} {path : List Float} {marks : List ℕ} (work : List ℕ) (distances : List Float) →
+-- the points that are handed over are f64
+all-f64 : (f : tie.After-shared-slice-known) → AllF64 (handed (f .before) .points)
+unfolding AllF64 plate
+all-f64 f i l = f .shared-slice-known .given i
+
+own-box : (s : tie.Start) → handed s .box ≡ box (handed s .points)
+unfolding plate
+own-box s = refl
+
+-- what meets the outcome divides, and its landings are near
+met : (f : tie.After-shared-slice-known) {a : Answer Counts} {path : List Float} {marks : List ℕ} (work : List ℕ) (distances : List Float) →
+    let s = f .before in
     Met (handed s) (s .args .path .now) (s .args .marks .now) (s .args .work .now) (s .args .distances .now) a path marks work distances →
-    Met (handed s) (s .args .path .now) (s .args .marks .now) (s .args .work .now) (s .args .distances .now) a path marks work distances × Divided (handed s) a path marks
-met s work distances m = (m, divides (handed s) (s .args .path .now) (s .args .marks .now) (length (s .args .work .now)) (length (s .args .distances .now)) _ _ _ (m .0) (m .1) (m .2))
+    Met (handed s) (s .args .path .now) (s .args .marks .now) (s .args .work .now) (s .args .distances .now) a path marks work distances
+    × Divided (handed s) a path marks
+    × Near a path marks
+met f work distances m =
+    let s = f .before in
+    let n = length (s .args .work .now) in
+    let l = length (s .args .distances .now) in (
+      m,
+      divides (handed s) (s .args .path .now) (s .args .marks .now) n l _ _ _ (m .0) (m .1) (m .2),
+      near (handed s) (s .args .path .now) (s .args .marks .now) n l _ _ _ (all-f64 f) (own-box s) (m .0) (m .1) (m .2),
+    )
 
 -- ---- needs
 
@@ -107,8 +135,9 @@ enum-known-checked c = search needs
 returns : tie.Need-returns
 unfolding retraceAnswer plate
 returns c =
-    let s = start-of (refused-of c) in
-    met s _ _ (met-refused (handed s) (s .args .path .now) (s .args .marks .now) (s .args .work .now) (s .args .distances .now) _ _ (unsound c))
+    let f = points-of (refused-of c) in
+    let s = f .before in
+    met f _ _ (met-refused (handed s) (s .args .path .now) (s .args .marks .now) (s .args .work .now) (s .args .distances .now) _ _ (unsound c))
 
 enum-told : tie.Need-enum-told
 enum-told c = search needs
@@ -140,7 +169,7 @@ returns-2 c =
     let room = c .before in
     let told = told-of room in
     let s = origin-of room in
-    met s _ _
+    met (given-of room) _ _
     (met-short (handed s) (s .args .path .now) (s .args .marks .now) (s .args .work .now) (s .args .distances .now) _ _ (sound told)
     (omega (arith, c .if1 .taken, room-is room, accepted told .counted)))
 
@@ -149,7 +178,7 @@ unfolding retraceAnswer refusal plate
 returns-3 c =
     let room = room-of (c .before) in
     let s = origin-of room in
-    met s _ _
+    met (given-of room) _ _
     (met-short-distances (handed s) (s .args .path .now) (s .args .marks .now) (s .args .work .now) (s .args .distances .now) _ _ (sound (told-of room)) (enough (c .before)) (c .if2 .taken))
 
 cast-c : tie.Need-cast-c
@@ -195,7 +224,7 @@ returns-4 c =
     let s = origin-of room in
     let r = room-is room in
     rw r
-    (met s _ _
+    (met (given-of room) _ _
     (met-full (handed s) (s .args .path .now) (s .args .marks .now) (s .args .work .now) (s .args .distances .now) _ _ (sound (told-of room)) (enough (test .before)) (omega (arith, test .if2 .left)) _ _ _ _ _
     (wrote joined) (omega (arith, c .if3 .taken, r))))
 
@@ -228,7 +257,7 @@ returns-5 c =
     let r = room-is room in
     let n = fits .if3 .left in
     let k = c .count-marks .ensures in
-    met s _ _
+    met (given-of room) _ _
     (met-whole (handed s) (s .args .path .now) (s .args .marks .now) (s .args .work .now) (s .args .distances .now) _ _ (sound (told-of room)) (enough (test .before)) (omega (arith, test .if2 .left)) _ _ _ _ _
     (wrote joined) (omega (arith, n, r)) (c .count-marks .result)
     (counted (s .args .points .now) (retrace (handed s)) _ _ _ _ _ _ (wrote joined) (omega (arith, n, r)) (c .count-marks .result) (k .0) (k .1) (k .2) (k .3) (k .4)))

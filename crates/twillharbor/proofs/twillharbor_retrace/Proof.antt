@@ -3,10 +3,12 @@ use mathlib.Core.Path.{_≡_, sym, ap, _∙_}
 use Prim.Native.Nat.{ℕ}
 use native.Mathlib.Omega.{arith}
 use Rattle.rules.specs.HandedOver.{refuses, refusal, retraceAnswer}
+use Rattle.rules.specs.Tools.{pick}
+use Rattle.rules.specs.HowNear.{writtenPoints}
 use Rattle.rules.specs.declared.Refusal.{Refusal}
 use Rattle.rules.specs.declared.Refusal.the-variants.{TooManyContours, TooManyPoints, Miscounted, OffThePlate, WorkShort, Full, Blank, BadLayer}
 use Rattle.plate.specs.Refused.{refused}
-use Rattle.twillharbor.specs.Results.{retraceResult, countsOf}
+use Rattle.twillharbor.specs.Results.{retraceResult, countsOf, writtenOf}
 use borrow.Author.Needs.{needs}
 use Rattle.twillharbor.proofs.twillharbor_retrace.Statement.{statement}
 use Rattle.twillharbor.proofs.twillharbor_retrace.Tie as tie
@@ -51,12 +53,12 @@ same-length-4 : tie.Need-same-length-4
 same-length-4 c = search needs
 
 returns : tie.Need-returns
-unfolding retraceResult countsOf retraceAnswer
+unfolding retraceResult countsOf writtenOf writtenPoints pick retraceAnswer
 returns c =
     let k = c .before .before .before .before .before .before .before .before .before .before .before in
     let e = rw (k .before .before .before .before .before .strategy-of .ensures) at (k .retrace-call .ensures) in
     let a = ap retraceAnswer (c .before .answer .given .1) in
-    (ap retraceResult (sym a ∙ e .0 .0), e .0 .1, e .0 .2, e .0 .3, e .0 .4, λ z. e .1 _ a)
+    (ap retraceResult (sym a ∙ e .0 .0), e .0 .1, e .0 .2, e .0 .3, e .0 .4, λ z. e .1 _ a, rw a at (e .2))
 
 same-length-5 : tie.Need-same-length-5
 same-length-5 c = search needs
@@ -71,13 +73,21 @@ same-length-8 : tie.Need-same-length-8
 same-length-8 c = search needs
 
 returns-2 : tie.Need-returns-2
-unfolding retraceResult retraceAnswer
+unfolding retraceResult writtenOf writtenPoints retraceAnswer
 returns-2 c =
     let k = c .before .before .before .before .before .before .before .before .before .before .before .before in
     let e = rw (k .before .before .before .before .before .strategy-of .ensures) at (k .retrace-call .ensures) in
     let a = ap retraceAnswer (c .before .before .answer2 .given .1) in
     let n = c .numbers-of .ensures in
-    (ap retraceResult (sym (refused _ _ _ n) ∙ sym a ∙ e .0 .0), e .0 .1, e .0 .2, e .0 .3, e .0 .4, λ z. absurd (not-zero _ _ _ n z))
+    let b = a ∙ refused _ _ _ n in (
+      ap retraceResult (sym b ∙ e .0 .0),
+      e .0 .1,
+      e .0 .2,
+      e .0 .3,
+      e .0 .4,
+      λ z. absurd (not-zero _ _ _ n z),
+      rw b at (e .2),
+    )
 
 pub twillharbor-retrace-spec : {M : Type 1} → statement M
 twillharbor-retrace-spec =

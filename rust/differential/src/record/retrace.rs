@@ -62,7 +62,8 @@ struct Row {
 /// The rows: document 01's plates A and D to G, others that separate one rule from another,
 /// plates whose contours meet, plates that are refused, plates that document 02's layers decide,
 /// then two of each kind of plate, in layers, but one of each kind whose contours meet (more would
-/// not fit the replaying program's room), and the same number of each damage.
+/// not fit the replaying program's room), the same number of each damage, and one plate by hand
+/// whose path leaves out a nearer point.
 pub fn retraces() -> String {
     let rows = rows();
     let mut words = Words::default();
@@ -80,7 +81,16 @@ fn rows() -> Vec<Row> {
     rows.extend(kind_rows(rows.len(), random));
     rows.extend(meeting_rows(random));
     rows.extend(damaged_rows(random));
+    let points = points_of(&left_out(), Inside);
+    rows.push(fitted(left_out(), Inside, 2 * points, 2 * points));
     rows
+}
+
+/// The jump comes from (7.8,3.9), though (11.7,0) is nearer: it lies in the ring whose bound ends
+/// the search.
+fn left_out() -> Plate {
+    const LINE: &[(f64, f64)] = &[(0.0, 0.0), (7.8, 3.9), (11.7, 0.0), (65.0, 0.0)];
+    plate_of(&[LINE, &[(7.8, 0.0)]], Size::default())
 }
 
 /// The lettered plates come in slices of several lengths, the first of which are just enough.
@@ -134,11 +144,12 @@ fn layered_rows(random: &mut Random) -> Vec<Row> {
     rows
 }
 
-/// Plates of each kind but those whose contours meet. The slices come in turn over all kinds, so
-/// that each meets each.
+/// Plates of each kind but those whose contours meet and those that leave out a nearer point. The
+/// slices come in turn over all kinds, so that each meets each.
 fn kind_rows(first: usize, random: &mut Random) -> Vec<Row> {
     let of_layers = &mut Random::new(22);
-    let kinds = KINDS.into_iter().filter(|(kind, _)| !matches!(kind, Kind::Meeting(_)));
+    let others = |kind: Kind| !matches!(kind, Kind::Meeting(_) | Kind::LeftOut);
+    let kinds = KINDS.into_iter().filter(|&(kind, _)| others(kind));
     let kinds = kinds.flat_map(|(kind, _)| [kind; PLATES]);
     let rows = kinds.enumerate().map(|(turn, kind)| {
         let strategy = random.pick(&[Outside, Inside]);
@@ -416,14 +427,16 @@ fn write_row(words: &mut Words, row: &Row) {
 
 #[cfg(test)]
 mod tests {
-    use twillharbor::c;
+    use twillharbor::StartPointStrategy::Inside;
+    use twillharbor::{Size, c};
 
     use super::super::tests::{MOST_BYTES, words};
     use super::super::{MOST_COORDINATES, MOST_LAYERS, MOST_LENGTHS};
     use super::{
-        LETTERED, MARKS_FILL, MOST_DISTANCES, MOST_ELEMENTS, MOST_WORK, PATH_FILL, PLATE_E, marked,
-        retraces,
+        LETTERED, MARKS_FILL, MOST_DISTANCES, MOST_ELEMENTS, MOST_WORK, PATH_FILL, PLATE_E,
+        left_out, marked, retraces, worked_out,
     };
+    use crate::near::{self, LeftOut};
     use crate::rule::retrace::TOUCH;
 
     /// Reads the rows as a program without Rust would, and calls the library.
@@ -500,5 +513,26 @@ mod tests {
         assert_eq!(e.points, [0.0, 0.0, 4.0, 0.0, 8.0, 0.0, 0.0, 1.0]);
         let (g, _) = &marked()[LETTERED - 1];
         assert_eq!(g.points, [0.0, 0.0, 1.0, 0.0, 0.0, 1.0]);
+    }
+
+    /// By the reference and by the library.
+    #[test]
+    fn a_nearer_point_is_left_out_within_the_limit() {
+        let plate = left_out();
+        let due = worked_out(&plate, Inside).unwrap();
+        assert_eq!(due.marks, [[0, 0], [1, 0], [1, 1], [1, 2], [2, 2], [2, 1], [3, 4]]);
+        let is = twillharbor::Plate::new(&plate.points, &plate.lengths)
+            .retrace(Size::default(), Inside)
+            .unwrap();
+        let path: Vec<[f64; 2]> = is.points().iter().map(|p| [p.x, p.y]).collect();
+        let marks: Vec<[u32; 2]> = is.marks().iter().map(|mark| mark.numbers()).collect();
+        assert_eq!((&path, &marks), (&due.path, &due.marks));
+        for (path, marks) in [(&due.path, &due.marks), (&path, &marks)] {
+            let looked = near::check(path, marks).unwrap();
+            let points = [[7.8, 3.9], [11.7, 0.0], [7.8, 0.0]];
+            let nearer = LeftOut { d: 15.209999999999999, f: 15.209999999999996, points };
+            assert_eq!(looked.left_out, [nearer]);
+            assert_eq!((looked.landings, looked.compared), (1, 4));
+        }
     }
 }

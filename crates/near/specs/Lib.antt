@@ -1,0 +1,10 @@
+pub mod Ratios
+pub mod Products
+pub mod Differences
+pub mod Placed
+pub mod RingBounds
+pub mod Boxed
+pub mod Search
+pub mod Landings
+pub mod EitherWay
+pub mod Theorem

@@ -39,10 +39,12 @@ ceiling-at f x p C h P g l =
     most : (X d L : ℕ) → X * L ≡ p * d → p * d ≤ C * L * d → X * L ≤ C * d * L
     most X d L e h = omega arith
 
--- ---- the greatest coordinate is p1 - n1, and d is its distance from the origin
+-- ---- p1 - n1 is a coordinate, p - n the least, and a - b the origin, which is not above it
 
-order : (p n p1 n1 S a b : ℕ) → n1 + p ≤ p1 + n → (a + n + S) * 2 ^ 26 ≤ (p + b) * 2 ^ 26 + S → n1 + a ≤ p1 + b
-order p n p1 n1 S a b h g = omega arith
+pub origin-below : (p n p1 n1 S a b : ℕ) → n1 + p ≤ p1 + n → (a + n + S) * 2 ^ 26 ≤ (p + b) * 2 ^ 26 + S → n1 + a ≤ p1 + b
+origin-below p n p1 n1 S a b h g = omega arith
+
+-- ---- the greatest coordinate is p1 - n1, and d is its distance from the origin
 
 -- at most 51.1 cells
 distance-most : (p n p1 n1 S a b d : ℕ) → n1 + a + d ≡ p1 + b → (p1 + n) * 1024 ≤ (n1 + p) * 1024 + S * 51250 →
@@ -98,7 +100,7 @@ unfolding cellsAlong
 cells-at hi s o p n p1 n1 S a b c hs S0 top w h g =
     let L = 2 ^ 1074 in
     let d = p1 + b - (n1 + a) in
-    let e = add-sub-of-le (order p n p1 n1 S a b h (w .over)) in
+    let e = add-sub-of-le (origin-below p n p1 n1 S a b h (w .over)) in
     let D = distance-most p n p1 n1 S a b d e g (w .under) in
     let G = sub-up binary64 hi o p1 n1 a b d (c .at) (w .at) e (room-G L S d D top) in
     let Gd = most-1024 (G .0) d (G .2 .over) in

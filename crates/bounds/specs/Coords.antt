@@ -8,7 +8,7 @@ use lib.Dec.{T}
 use lib.Ieee.{Float, nan, inf, fin, binary64}
 use lib.Ieee.Positive.{den}
 use lib.Ieee.Scale.{finite}
-use Rattle.rules.specs.HowNear.{IsF64}
+use Rattle.rules.specs.HandedOver.{IsF64}
 use Rattle.path.specs.FiniteDistances.{AtMost, OnPlate, on-plate-most}
 use Rattle.bounds.specs.Units.{numPlus, numMinus, At, fits-at}
 

@@ -2,7 +2,7 @@
 use Prim.Native.Nat.{ℕ, _+_, _*_, _^_, _≤_, _<_}
 use native.Mathlib.Omega.{arith}
 use lib.Ieee.{Float, binary64, sub}
-use Rattle.rules.specs.HowNear.{IsF64}
+use Rattle.rules.specs.HandedOver.{IsF64}
 use Rattle.rules.specs.GridAndNearest.{cellsAlong, cellSize, gridOf}
 use Rattle.rules.specs.declared.BoundingBox.{BoundingBox}
 use Rattle.rules.specs.declared.SpatialGrid.{SpatialGrid}

@@ -4,7 +4,7 @@ use native.Mathlib.Nat.{add-sub-of-le}
 use native.Mathlib.Omega.{arith}
 use lib.Dec.{T}
 use lib.Ieee.{Float, binary64, sub, le}
-use Rattle.rules.specs.HowNear.{IsF64}
+use Rattle.rules.specs.HandedOver.{IsF64}
 use Rattle.path.specs.FiniteDistances.{OnPlate}
 use Rattle.bounds.specs.Units.{At}
 use Rattle.bounds.specs.Order.{le-under, under-at}

@@ -10,7 +10,7 @@ use lib.Ieee.Positive.{first-pos}
 use Rattle.rules.specs.Tools.{sum}
 use Rattle.rules.specs.Box.{box}
 use Rattle.rules.specs.GridAndNearest.{gridOf}
-use Rattle.rules.specs.HowNear.{IsF64}
+use Rattle.rules.specs.HandedOver.{IsF64}
 use Rattle.rules.specs.declared.BoundingBox.{BoundingBox}
 use Rattle.path.specs.Lists.{All}
 use Rattle.path.specs.Accepted.{Accepted}

@@ -1,5 +1,4 @@
 -- No point of a plate is below the least coordinates of the plate's box. Assumes nothing.
-use mathlib.Core.Path.{_≡_}
 use mathlib.Core.Bool.{Bool, true, false, not}
 use mathlib.Core.List.{List, [], _∷_}
 use Prim.Native.Nat.{ℕ, zero, suc, _+_, _*_, _<_}
@@ -14,6 +13,7 @@ use Rattle.rules.specs.Box.{widen, boxFrom, box}
 use Rattle.rules.specs.declared.Point.{Point}
 use Rattle.rules.specs.declared.BoundingBox.{BoundingBox}
 use Rattle.path.specs.Lists.{All}
+use Rattle.path.specs.Slices.{twice, twice-one}
 use Rattle.path.specs.FiniteDistances.{OnPlate}
 use Rattle.bounds.specs.Order.{Under, under-refl, under-trans, not-lt-under, lesser-first}
 use Rattle.bounds.specs.Boxes.{from-keeps}
@@ -51,12 +51,6 @@ widen-keeps b x y q hx hy h =
 
 all-keep : (b : BoundingBox) (xs : List Float) (q : Point) → All OnPlate xs → Holds b q → Holds (boxFrom b xs) q
 all-keep b xs q a h = from-keeps OnPlate (λ c. Holds c q) (λ c x y hx hy. widen-keeps c x y q hx hy) b xs a h
-
-twice : (v : ℕ) → 2 * suc v ≡ suc (suc (2 * v))
-twice v = omega arith
-
-twice-one : (v : ℕ) → 2 * suc v + 1 ≡ suc (suc (2 * v + 1))
-twice-one v = omega arith
 
 from-holds : (b : BoundingBox) (xs : List Float) → Floor (b .«min_x») → Floor (b .«min_y») → All OnPlate xs → (v : ℕ) → 2 * v + 1 < length xs →
     Holds (boxFrom b xs) (at xs v)

@@ -1,8 +1,7 @@
--- Along the path: each jump or touch leaves a point than which none before is much nearer, to the end of the joining. For every plate whose points lie in its
--- box. Assumes nothing.
+-- Along the path: each jump or touch leaves a point than which none before is much nearer, to the end of the joining. For every plate that has its grid and no
+-- point below its box's least coordinates. Assumes nothing.
 use mathlib.Core.Path.{_≡_, refl, ap}
 use mathlib.Core.Bool.{Bool, true, false}
-use mathlib.Core.Logic.{inl, inr}
 use mathlib.Core.List.{List, [], _∷_, _++_, map, append-nil}
 use Prim.Native.Nat.{ℕ, suc, _+_, _-_, _≤_, _<_}
 use native.Mathlib.Decide.{decLt}
@@ -25,11 +24,11 @@ use Rattle.path.specs.Contours.{all-among, contour-in}
 use Rattle.path.specs.Start.{AllTakePart}
 use Rattle.path.specs.Joining.{Begins, Enters, retrace-keeps}
 use Rattle.path.specs.Blank.{retrace-empty}
-use Rattle.path.specs.Pairs.{step-old, step-new, vertex-old, vertex-new, length-snoc, divided-some}
+use Rattle.path.specs.Pairs.{no-landing, step-old, step-new, vertex-old, vertex-new, length-snoc, divided-some}
 use Rattle.path.specs.Emission.{walk-end, StepOf, emit-of, begin-of, begin-divided}
 use Rattle.path.specs.Entering.{walk-copies, vertex-has, copies-have, Numbered, of-plate}
 use Rattle.bounds.specs.Gridded.{Gridded}
-use Rattle.near.specs.RingBounds.{Inside}
+use Rattle.near.specs.RingBounds.{OnAxes}
 use Rattle.near.specs.Search.{nearest-near}
 
 -- ---- steps that are no landings
@@ -37,25 +36,17 @@ use Rattle.near.specs.Search.{nearest-near}
 abbrev Plain : Step → Type 0
 Plain s = IsJumpOrTouch (s .kind) → ⊥
 
-plain-kind : {kind : ℕ} → kind < 3 → IsJumpOrTouch kind → ⊥
-plain-kind l (inl e) = omega (arith, e)
-plain-kind l (inr e) = omega (arith, e)
-
-plain-start : (v : ℕ) → Plain (land startKind v)
-unfolding land
-plain-start v = plain-kind (omega arith)
-
 plain-up : (v : ℕ) → Plain (cutUp v)
 unfolding cutUp
-plain-up v = plain-kind (omega arith)
+plain-up v = no-landing _ (omega arith)
 
 plain-down : (v : ℕ) → Plain (cutDown v)
 unfolding cutDown
-plain-down v = plain-kind (omega arith)
+plain-down v = no-landing _ (omega arith)
 
 plain-back : (v k : ℕ) → Plain (backStep v k)
 unfolding backStep
-plain-back v k = plain-kind (omega arith)
+plain-back v k = no-landing _ (omega arith)
 
 plain-map : (f : ℕ → Step) → ((i : ℕ) → Plain (f i)) → (is : List ℕ) → All Plain (map f is)
 plain-map f h is = all-map Plain f is (all-of (λ i. Plain (f i)) h is)
@@ -144,9 +135,9 @@ landed-lands p path kind v ss l h near =
     rw (l .is, ← append-snoc path (land kind v) (l .rest))
     (landed-plain p (path ++ land kind v ∷ []) (l .rest) (l .plain) (landed-snoc p path (land kind v) h near))
 
--- ---- a plate whose points lie in its box, over which it has its grid
+-- ---- a plate that has its grid, and whose points are not below its box's least coordinates
 
-module _ (p : Plate) (grid : 0 < sum (p .lengths) → Gridded (p .box) (gridFor p)) (inside : (v : ℕ) → OfPlate p v → Inside (p .box) (at (p .points) v)) where
+module _ (p : Plate) (grid : 0 < sum (p .lengths) → Gridded (p .box) (gridFor p)) (inside : (v : ℕ) → OfPlate p v → OnAxes (p .box) (at (p .points) v)) where
   -- no point of the path is much nearer to vertex r than the one that is found
   found-near : (path : List Step) → Numbered p path → (r : ℕ) → OfPlate p r → (i : ℕ) → i < length path →
       NearAt p r (vertexOf path (foundFor p path (at (p .points) r))) (vertexOf path i)
@@ -155,7 +146,7 @@ module _ (p : Plate) (grid : 0 < sum (p .lengths) → Gridded (p .box) (gridFor 
       let q = at (p .points) r in
       let z = at (p .points) 0 in
       let ps = pathPoints p path in
-      let all-inside : (k : ℕ) → k < length ps → Inside (p .box) (getD ps k z) =
+      let all-inside : (k : ℕ) → k < length ps → OnAxes (p .box) (getD ps k z) =
       λ k x. rw (points-at p path k) (inside (vertexOf path k) (vertex-has (OfPlate p) path numbered k (rw (points-length p path) at x))) in
       rw (points-at p path i, points-at p path (foundFor p path q)) at
       (nearest-near (p .box) (gridFor p) (grid (omega arith)) ps q z (inside r hr) all-inside i (rw (points-length p path) l))
@@ -179,7 +170,7 @@ module _ (p : Plate) (grid : 0 < sum (p .lengths) → Gridded (p .box) (gridFor 
         numbered = all-give (StepOf (s .contour)) _ (λ z o. of-plate p (s .contour) i (z .vertex) o) (begin s) (begin-of s);
         landed =
             landed-lands p [] startKind _ (begin s) (emit-lands startKind (s .contour) (entryOf s) 0) (λ k l. absurd (omega arith))
-            (λ t. absurd (plain-kind (omega arith) t));
+            (no-landing _ (omega arith));
       }
 
   -- a contour enters at vertex r, from the place h that is found

@@ -3,20 +3,22 @@ use mathlib.Core.Path.{_≡_, sym, subst}
 use mathlib.Core.Bool.{true, false}
 use mathlib.Core.Logic.{_⊎_, inl, inr}
 use Prim.Native.Nat.{ℕ, suc, _+_, _-_, _*_, _/_, _^_, _≤_, _<_, min}
-use native.Mathlib.Nat.{le-refl, le-trans, le-of-eq, le-of-lt, add-sub-of-le, mul-assoc, mul-right-comm, mul-le-mul-left, mul-le-mul-right, mul-lt-mul-of-pos-right, le-of-mul-le-mul-right, lt-of-mul-lt-mul-right, le-div-iff-mul-le, div-lt-iff-lt-mul}
+use native.Mathlib.Nat.{le-refl, le-trans, le-of-eq, le-of-lt, add-sub-of-le, mul-assoc, mul-right-comm}
+use native.Mathlib.Nat.{mul-le-mul-left, mul-le-mul-right, mul-lt-mul-of-pos-right, le-of-mul-le-mul-right, lt-of-mul-lt-mul-right, le-div-iff-mul-le, div-lt-iff-lt-mul}
 use native.Mathlib.Omega.{arith}
 use lib.Dec.{lit≤}
 use lib.Pow.{pow-pos}
 use lib.Ieee.{Float, nan, inf, fin, binary64, up, down, sub, mul, toUnsigned}
 use lib.Ieee.Fits.{down-pos}
 use Rattle.rules.specs.GridAndNearest.{indexAlong}
-use Rattle.rules.specs.HowNear.{IsF64}
+use Rattle.rules.specs.HandedOver.{IsF64}
 use Rattle.path.specs.FiniteDistances.{OnPlate}
 use Rattle.bounds.specs.Rounded.{Most, most-cancel, Near}
 use Rattle.bounds.specs.Units.{At}
 use Rattle.bounds.specs.Order.{Under, under-at}
 use Rattle.bounds.specs.Sums.{sub-up}
 use Rattle.bounds.specs.Coords.{Coord, coord-of}
+use Rattle.bounds.specs.Cells.{origin-below}
 use Rattle.bounds.specs.Gridded.{Axis}
 use Rattle.near.specs.Ratios.{most-up, most-trans, most-mul, most-by, most-40, most-half, at-num}
 use Rattle.near.specs.Products.{mul-up, Mag}
@@ -84,9 +86,6 @@ chain-under L S I A X U l h g k =
     (subst (λ (z : ℕ). Most (2 ^ 53) 5 (A * L * L) z) (mul-right-comm U L S) (subst (λ (z : ℕ). Most (2 ^ 53) 5 z (U * L * S)) (sym (mul-assoc A L L)) w))
 
 -- ---- a coordinate, q - k, that is not below the box's least one, p - n; the origin is a - b. It is A beyond the origin: half a cell at least.
-
-beyond-origin : (p n q k S a b : ℕ) → p + k ≤ q + n → (a + n + S) * 2 ^ 26 ≤ (p + b) * 2 ^ 26 + S → k + a ≤ q + b
-beyond-origin p n q k S a b u h = omega arith
 
 at-least : (p n q k S a b A : ℕ) → p + k ≤ q + n → (a + n + S) * 2 ^ 26 ≤ (p + b) * 2 ^ 26 + S → k + a + A ≡ q + b → S ≤ A * 2
 at-least p n q k S a b A u h e = omega arith
@@ -180,6 +179,9 @@ apart L S c q A d U W l Q C u v h g =
 
 -- ---- two coordinates on one axis
 
+pub one-less : (r : ℕ) → 2 ≤ r → 1 ≤ r - 1
+one-less r h = omega arith
+
 -- cells c and d are r or more apart
 abbrev pub Apart : ℕ → ℕ → ℕ → Type 0
 Apart r c d = (c + r ≤ d) ⊎ (d + r ≤ c)
@@ -222,7 +224,7 @@ module _ (lo hi o i : Float) (S I C : ℕ) (g : Axis lo hi o S C) (inverse : At 
       let w = g .origin in
       let u = under-at binary64 lo x (g .p) (g .n) q k (g .least .at) (c .2 .at) (h .least) in
       let A = q + b - (k + a) in
-      let e : k + a + A ≡ q + b = add-sub-of-le (beyond-origin (g .p) (g .n) q k S a b u (w .over)) in
+      let e : k + a + A ≡ q + b = add-sub-of-le (origin-below (g .p) (g .n) q k S a b (omega (arith, u)) (w .over)) in
       let SA = at-least (g .p) (g .n) q k S a b A u (w .over) e in
       let AL = at-most L (g .p) (g .n) q k S a b A (g .least .minus) (c .2 .plus) size-most (w .under) e in
       let X = sub-up binary64 x o q k a b A (c .2 .at) (w .at) e (room L A AL) in
@@ -262,9 +264,6 @@ module _ (lo hi o i : Float) (S I C : ℕ) (g : Axis lo hi o S C) (inverse : At 
     where
       pred : (r : ℕ) → 2 ≤ r → r ≡ suc (r - 1)
       pred r h = omega arith
-
-      one-less : (r : ℕ) → 2 ≤ r → 1 ≤ r - 1
-      one-less r h = omega arith
 
       more : (A B : ℕ) → B ≤ A + (B - A)
       more A B = omega arith

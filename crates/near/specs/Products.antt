@@ -60,10 +60,10 @@ mul-up x y p q hx hy N h =
 -- ---- a finite result of a / c, from below
 
 -- It is w units; what is in the normal range and is at most a / c, n units of 2 ^ -2148, is at most that but for its 2 ^ -53.
-pub record Least (z : Float) (a c : ℕ) : Type 0 where
-  pub w : ℕ
-  pub at : At binary64 z w 0
-  pub least : (n : ℕ) → n * c ≤ a * (2 ^ 1074 * 2 ^ 1074) → 2 ^ 52 * 2 ^ 1074 ≤ n → Most (2 ^ 53) 1 n (w * 2 ^ 1074)
+record Least (z : Float) (a c : ℕ) : Type 0 where
+  w : ℕ
+  at : At binary64 z w 0
+  least : (n : ℕ) → n * c ≤ a * (2 ^ 1074 * 2 ^ 1074) → 2 ^ 52 * 2 ^ 1074 ≤ n → Most (2 ^ 53) 1 n (w * 2 ^ 1074)
 
 normal : (L a c n : ℕ) → 0 < L → n * c ≤ a * (L * L) → 2 ^ 52 * L ≤ n → 2 ^ 52 * c ≤ a * L
 normal L a c n l h N = le-of-mul-le-mul-right (omega (arith, mul-le-mul-right c N)) l
@@ -71,7 +71,7 @@ normal L a c n l h N = le-of-mul-le-mul-right (omega (arith, mul-le-mul-right c 
 under : (L a c n w : ℕ) → 0 < c → n * c ≤ a * (L * L) → Most (2 ^ 53) 1 (a * L) (w * c) → Most (2 ^ 53) 1 n (w * L)
 under L a c n w C h m = le-of-mul-le-mul-right (omega (arith, mul-le-mul-right L m)) C
 
-pub least-of : (z : Float) (a c : ℕ) → 0 < c → z ≡ round binary64 false a c → T (finite z) → Least z a c
+least-of : (z : Float) (a c : ℕ) → 0 < c → z ≡ round binary64 false a c → T (finite z) → Least z a c
 least-of z a c C e t =
     let is = round-val binary64 a c (round-under binary64 a c (subst (λ (y : Float). T (finite y)) e t)) in
     record {

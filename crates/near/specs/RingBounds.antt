@@ -24,7 +24,7 @@ use Rattle.rules.specs.HowNear.{Slack}
 use Rattle.near.specs.Ratios.{most-trans, most-mul, most-40, most-half, Ratio, units-ratio}
 use Rattle.near.specs.Products.{whole-at, mul-up, half-normal, squared-at}
 use Rattle.near.specs.Differences.{difference}
-use Rattle.near.specs.Placed.{Apart, OnAxis, FarAlong, far-along}
+use Rattle.near.specs.Placed.{Apart, one-less, OnAxis, FarAlong, far-along}
 
 -- ---- the bound of a ring: q is r - 1, S the cell size, E their product rounded, and B its square rounded
 
@@ -109,19 +109,19 @@ D-least L S q D k h m = go (q * S) (half-40 (q * S) D m) (mul-le-mul-right S k)
 
 -- ---- two points of the plate, in its grid
 
-pub record Inside (b : BoundingBox) (q : Point) : Type 0 where
+pub record OnAxes (b : BoundingBox) (q : Point) : Type 0 where
   pub x : OnAxis (b .«min_x») (q .x)
   pub y : OnAxis (b .«min_y») (q .y)
 
-pub inside-plus : (b : BoundingBox) (P Q : Point) → Inside b P → Inside b Q → Plus (distanceSquared P Q)
-inside-plus b P Q hP hQ = distance-plus P Q (hP .x .on-plate) (hP .y .on-plate) (hQ .x .on-plate) (hQ .y .on-plate)
+pub axes-plus : (b : BoundingBox) (P Q : Point) → OnAxes b P → OnAxes b Q → Plus (distanceSquared P Q)
+axes-plus b P Q hP hQ = distance-plus P Q (hP .x .on-plate) (hP .y .on-plate) (hQ .x .on-plate) (hQ .y .on-plate)
 
--- a ring's bound and a squared distance: what the ratio says of both
+-- the bound of a ring is finite, and nearly at most f
 pub record Clear (bnd f : Float) : Type 0 where
   pub fine : T (finite bnd)
   pub ratio : Ratio bnd f
 
-module _ (b : BoundingBox) (g : SpatialGrid) (G : Gridded b g) (P Q : Point) (hP : Inside b P) (hQ : Inside b Q) where
+module _ (b : BoundingBox) (g : SpatialGrid) (G : Gridded b g) (P Q : Point) (hP : OnAxes b P) (hQ : OnAxes b Q) where
   dx : Float
   dx = sub binary64 (P .x) (Q .x)
 
@@ -136,26 +136,23 @@ module _ (b : BoundingBox) (g : SpatialGrid) (G : Gridded b g) (P Q : Point) (hP
 
   sum-plus : Plus (mulAdd binary64 dx dx (mul binary64 dy dy))
   unfolding dx dy distanceSquared
-  sum-plus = inside-plus b P Q hP hQ
+  sum-plus = axes-plus b P Q hP hQ
 
   -- z is the difference along the axis on which the cells are r apart
-  clear : (r : ℕ) (z : Float) → 2 ≤ r → (z' : FarAlong z (G .S) r) (F : ℕ) → At binary64 (mulAdd binary64 dx dx (mul binary64 dy dy)) F 0 →
-      (2 ^ 53 * 2 ^ 1074 ≤ z' .D * z' .D → Most (2 ^ 53) 3 (z' .D * z' .D) (F * 2 ^ 1074)) → Clear (bound g r) (distanceSquared P Q)
+  clear : (r : ℕ) (z : Float) → 2 ≤ r → (z′ : FarAlong z (G .S) r) (F : ℕ) → At binary64 (mulAdd binary64 dx dx (mul binary64 dy dy)) F 0 →
+      (2 ^ 53 * 2 ^ 1074 ≤ z′ .D * z′ .D → Most (2 ^ 53) 3 (z′ .D * z′ .D) (F * 2 ^ 1074)) → Clear (bound g r) (distanceSquared P Q)
   unfolding bound distanceSquared dx dy
-  clear r z hr z' F at by =
+  clear r z hr z′ F at by =
       let L = 2 ^ 1074 in
       let q = r - 1 in
-      let bo = bound-of (g .«cell_size») (G .S) q (G .size) (G .size-least) (G .size-most) (one-less r hr) (under r (z' .rings)) in
-      let far = by (square-normal L (z' .D) (D-least L (G .S) q (z' .D) (one-less r hr) (G .size-least) (z' .far)) (lit≤ tt)) in
+      let bo = bound-of (g .«cell_size») (G .S) q (G .size) (G .size-least) (G .size-most) (one-less r hr) (under r (z′ .rings)) in
+      let far = by (square-normal L (z′ .D) (D-least L (G .S) q (z′ .D) (one-less r hr) (G .size-least) (z′ .far)) (lit≤ tt)) in
       record {
         fine = bo .at .0;
         ratio = units-ratio (bound g r) (distanceSquared P Q) (bo .B) F (bo .at) at
-            (slack (bo .B) F (combine L (G .S) q (z' .D) (bo .E) (bo .B) F (pow-pos 1074) (z' .far) (bo .one) (bo .two) far));
+            (slack (bo .B) F (combine L (G .S) q (z′ .D) (bo .E) (bo .B) F (pow-pos 1074) (z′ .far) (bo .one) (bo .two) far));
       }
     where
-      one-less : (r : ℕ) → 2 ≤ r → 1 ≤ r - 1
-      one-less r h = omega arith
-
       under : (r : ℕ) → r ≤ 53 → r - 1 ≤ 53
       under r h = omega arith
 

@@ -27,7 +27,7 @@ use Rattle.bounds.specs.Gridded.{Gridded}
 use Rattle.rules.specs.HowNear.{NearlyAtMost}
 use Rattle.near.specs.Ratios.{ratio-near, not-lt-near, lt-ratio}
 use Rattle.near.specs.Placed.{Apart}
-use Rattle.near.specs.RingBounds.{Inside, inside-plus, Clear, far-bound}
+use Rattle.near.specs.RingBounds.{OnAxes, axes-plus, Clear, far-bound}
 
 -- ---- how far a cell is from another
 
@@ -94,10 +94,10 @@ settled-near : (b : Nearest) (c : PathPoint) → MeasuredBest b → Measured c �
 settled-near Nothing c m h s = absurd s
 settled-near (Found i d) c m h s = not-lt-near d (c .squared) m h s
 
-beyond-near : (g : SpatialGrid) (q : Cell) (r : ℕ) (b : Nearest) (c : PathPoint) → MeasuredBest b → Fit g q c → T (beyond g r b) → Off r q (c .cell) → NotMuchNearer c b
+left-near : (g : SpatialGrid) (q : Cell) (r : ℕ) (b : Nearest) (c : PathPoint) → MeasuredBest b → Fit g q c → T (beyond g r b) → Off r q (c .cell) → NotMuchNearer c b
 unfolding beyond
-beyond-near g q r Nothing c m f t o = absurd t
-beyond-near g q r (Found i d) c m f t o =
+left-near g q r Nothing c m f t o = absurd t
+left-near g q r (Found i d) c m f t o =
     let h = and-yes (leb 2 r) (lt d (bound g r)) t in
     let w = f .far r (leb→le 2 r (h .0)) o in
     ratio-near d (c .squared) m (f .measured) (lt-ratio d (bound g r) (c .squared) m (w .fine) (h .1) (w .ratio))
@@ -139,7 +139,7 @@ module _ (g : SpatialGrid) (q : Cell) (cs : List PathPoint) (some-cols : 1 ≤ g
     where
       left : (c : PathPoint) → T (beyond g r b) → Fit g q c → (Closer r q (c .cell) → Settled c b) → NotMuchNearer c b
       left c t f old =
-          ⊎-elim (λ k. settled-near b c (h .best) (f .measured) (old k)) (λ o. beyond-near g q r b c (h .best) f t o) (closer? r q (c .cell))
+          ⊎-elim (λ k. settled-near b c (h .best) (f .measured) (old k)) (λ o. left-near g q r b c (h .best) f t o) (closer? r q (c .cell))
 
       go : (x : Bool) → (T x → T (beyond g r b)) → All (λ c. NotMuchNearer c (scanFrom g q cs n (suc r) (scanRing g q cs r b))) cs →
           All (λ c. NotMuchNearer c (elim x [ true ↦ b | false ↦ scanFrom g q cs n (suc r) (scanRing g q cs r b) ])) cs
@@ -156,15 +156,15 @@ module _ (g : SpatialGrid) (q : Cell) (cs : List PathPoint) (some-cols : 1 ≤ g
 
 -- ---- the query over the points of a path, all of them the plate's; z is what stands beyond the end
 
-module _ (b : BoundingBox) (g : SpatialGrid) (G : Gridded b g) (ps : List Point) (q z : Point) (hq : Inside b q)
-    (hps : (i : ℕ) → i < length ps → Inside b (getD ps i z)) where
+module _ (b : BoundingBox) (g : SpatialGrid) (G : Gridded b g) (ps : List Point) (q z : Point) (hq : OnAxes b q)
+    (hps : (i : ℕ) → i < length ps → OnAxes b (getD ps i z)) where
   fits-all : All (Fit g (cellOf g q)) (seenFrom g q 0 ps)
   fits-all =
       all-seen (Fit g (cellOf g q)) g q z ps 0
       (λ k l.
       let p = getD ps k z in
       record {
-        measured = inside-plus b q p hq (hps k l);
+        measured = axes-plus b q p hq (hps k l);
         inside = (col-in g p, row-in g p);
         far = λ r h o. far-bound b g G q p hq (hps k l) r h o;
       })

@@ -2,11 +2,12 @@
 -- their symbols, in crates/rules/specs/HowNear.antt. The first is of the path that the documents' rules give every accepted plate, the second of what a call
 -- has written: the whole path, or the beginning of one that outgrows C.
 --
--- The way to them. A coordinate's cell is found by a difference, a product and a whole part (Placed): three roundings of at most 2 ^ -53 each, so that two
--- points whose cells are r columns or rows apart are r - 1 cell sizes apart along that axis but for a few 2 ^ -40ths; the bound of ring r and a squared
--- distance are such roundings too (Products, RingBounds). So what a search that is left at ring r has not seen is at most 17 / 2 ^ 40 nearer than the bound, and so
--- than what was found; what it has seen is not nearer at all (Search). A contour enters the path from the place that is found for its landing, and all path
--- points before the landing have vertices of those that were searched (Landings, by the induction over the joining in crates/path). Assumes nothing.
+-- The way to them. A coordinate's cell is the whole part of its difference from the origin times the reciprocal of the cell size (Placed): three roundings of
+-- at most 2 ^ -53 each, so that two points whose cells are r columns or rows apart are r - 1 cell sizes apart along that axis but for a few 2 ^ 40ths; the
+-- bound of ring r and a squared distance are such roundings too (Products, RingBounds). So what a search that is left at ring r has not seen is at most
+-- 17 / 2 ^ 40 nearer than the bound, and so than what was found; what it has seen is not nearer at all (Search). A contour enters the path from the place that
+-- is found for its landing, and all path points before the landing have vertices of those that were searched (Landings, by the induction over the joining in
+-- crates/path). Assumes nothing.
 use mathlib.Core.Path.{_≡_, sym, ap, _∙_, subst, refl}
 use mathlib.Core.Bool.{Bool, true, false}
 use mathlib.Core.List.{List}
@@ -19,12 +20,12 @@ use lib.ListN.{length, take}
 use lib.Seq.{take-all}
 use borrow.Author.Tests.{eqb-true}
 use Rattle.rules.specs.Tools.{pick, sum}
-use Rattle.rules.specs.HandedOver.{Plate, at, Answer, gives, refuses, retraceRoom}
+use Rattle.rules.specs.HandedOver.{IsF64, Plate, at, Answer, gives, refuses, retraceRoom}
 use Rattle.rules.specs.Box.{box}
 use Rattle.rules.specs.RetraceAndMarks.{vertexOf, retrace, coordinates, marks}
 use Rattle.rules.specs.Calls.{counts, vertices, retraceCall}
 use Rattle.rules.specs.PathStatement.{kindAt, IsJumpOrTouch}
-use Rattle.rules.specs.HowNear.{LandingsNear, writtenPoints, IsF64, AllF64, IsAccepted, HowNearByRules, HowNear}
+use Rattle.rules.specs.HowNear.{LandingsNear, writtenPoints, AllF64, IsAccepted, HowNearByRules, HowNear}
 use Rattle.rules.specs.declared.Counts.{Counts}
 use Rattle.path.specs.Lists.{All, all-at, all-places}
 use Rattle.path.specs.Accepted.{Accepted, checked-gives, OfPlate, point-on}
@@ -35,7 +36,7 @@ use Rattle.path.specs.Theorem.{retrace-gives, retrace-full, slice-after, slice-
 use Rattle.path.specs.Written.{at-take, kind-take}
 use Rattle.bounds.specs.Boxes.{box-sides, accepted-sound}
 use Rattle.bounds.specs.Gridded.{Gridded, gridded}
-use Rattle.near.specs.RingBounds.{Inside}
+use Rattle.near.specs.RingBounds.{OnAxes}
 use Rattle.near.specs.Boxed.{box-holds}
 use Rattle.near.specs.EitherWay.{distance-swap}
 use Rattle.near.specs.Landings.{retrace-landed}
@@ -52,7 +53,7 @@ module _ (p : Plate) (f64 : AllF64 (p .points)) (own : p .box ≡ box (p .points
   unfolding AllF64
   all-f64 = all-places IsF64 nan (p .points) f64
 
-  inside-at : (v : ℕ) → OfPlate p v → Inside (p .box) (at (p .points) v)
+  inside-at : (v : ℕ) → OfPlate p v → OnAxes (p .box) (at (p .points) v)
   inside-at v h =
       let xs = p .points in
       let l : 2 * v + 1 < length xs = omega (arith, accepted .counted) in

@@ -1,1 +1,1 @@
-// No code: what the ring search can cost (ticket 8) stands in specs/, with its proof.
+// No code: the proof of how near a jump is (document 02, ticket 8), over the definitions of `rules`, stands in specs/.

@@ -1,5 +1,5 @@
--- What a call that gives a result has passed: refusals 1 to 3, 13 and 4; and so the squared distances of the plate's points are finite, their signs plus.
--- Assumes nothing.
+-- What a call has passed that gives a result, or another refusal than these: refusals 1 to 3, 13 and 4; and so the squared distances of the plate's points
+-- are finite, their signs plus. Assumes nothing.
 use mathlib.Core.Path.{_≡_, refl, sym, subst}
 use mathlib.Core.Bool.{Bool, true, false}
 use mathlib.Core.List.{List, [], _∷_}

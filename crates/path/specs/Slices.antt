@@ -31,10 +31,10 @@ pub vertices-length : (path : List Step) → length (vertices path) ≡ length p
 unfolding vertices
 vertices-length path = length-map path (λ (s : Step). s .vertex)
 
-twice : (k : ℕ) → 2 * suc k ≡ suc (suc (2 * k))
+pub twice : (k : ℕ) → 2 * suc k ≡ suc (suc (2 * k))
 twice k = omega arith
 
-twice-one : (k : ℕ) → 2 * suc k + 1 ≡ suc (suc (2 * k + 1))
+pub twice-one : (k : ℕ) → 2 * suc k + 1 ≡ suc (suc (2 * k + 1))
 twice-one k = omega arith
 
 pub kind-at : (path : List Step) (k : ℕ) → k < length path → kindAt (marks path) k ≡ stepAt path k .kind

@@ -44,12 +44,12 @@ divides p path ms w d a path′ ms′ x y z n e =
     rw (y, z) (λ k. path-statement p path ms w d n (sym x ∙ e) k .3, layer-statement p path ms w d n (sym x ∙ e))
 
 -- and what has been written, by a result or before refusal 6, has near landings
-abbrev pub Near : Answer Counts → List Float → List ℕ → Type 0
-Near a path′ ms′ = LandingsNear path′ ms′ (writtenPoints a)
+abbrev pub WrittenNear : Answer Counts → List Float → List ℕ → Type 0
+WrittenNear a path′ ms′ = LandingsNear path′ ms′ (writtenPoints a)
 
 pub near : (p : Plate) (path : List Float) (ms : List ℕ) (w d : ℕ) (a : Answer Counts) (path′ : List Float) (ms′ : List ℕ) →
     AllF64 (p .points) → p .box ≡ box (p .points) →
-    a ≡ retraceCall p path ms w d .answer → path′ ≡ retraceCall p path ms w d .path → ms′ ≡ retraceCall p path ms w d .marks → Near a path′ ms′
+    a ≡ retraceCall p path ms w d .answer → path′ ≡ retraceCall p path ms w d .path → ms′ ≡ retraceCall p path ms w d .marks → WrittenNear a path′ ms′
 unfolding HowNear
 near p path ms w d a path′ ms′ f64 own x y z = rw (x, y, z) (how-near p path ms w d f64 own)
 

@@ -7,7 +7,7 @@ use mathlib.Core.List.{List, [], _∷_, _++_}
 use lib.Dec.{T, leb, ltb, eqb}
 use lib.ListN.{length, take, drop, getD}
 use lib.IntN.{pos}
-use lib.Ieee.{Float, nan, fin, neg, le}
+use lib.Ieee.{Float, nan, fin, binary64, fits, neg, le}
 use Rattle.rules.specs.Tools.{pick, sum, highestLayer}
 use Rattle.rules.specs.Box.{box}
 use Rattle.rules.specs.declared.Point.{Point}
@@ -28,6 +28,10 @@ use Rattle.rules.specs.declared.RetraceAnswer.{RetraceAnswer}
 use Rattle.rules.specs.declared.RetraceAnswer.the-variants.{Joined, NotJoined}
 
 -- ---- points and contours
+
+-- a number that an f64 can have; a `Float` may have any precision
+abbrev pub IsF64 : Float → Type 0
+IsF64 x = T (fits binary64 x)
 
 -- M is the length of `lengths`, and P is their sum.
 pub record Plate : Type 0 where

@@ -6,11 +6,11 @@ use mathlib.Core.Path.{_≡_}
 use mathlib.Core.Bool.{true, false}
 use mathlib.Core.List.{List}
 use Prim.Native.Nat.{ℕ, suc, _*_, _≤_, _<_}
-use lib.Dec.{T, eqb}
+use lib.Dec.{eqb}
 use lib.ListN.{length, getD}
-use lib.Ieee.{Float, nan, inf, fin, binary64, fits, up, down}
+use lib.Ieee.{Float, nan, inf, fin, up, down}
 use Rattle.rules.specs.Tools.{pick}
-use Rattle.rules.specs.HandedOver.{Plate, at, Answer, gives, refuses, checked}
+use Rattle.rules.specs.HandedOver.{IsF64, Plate, at, Answer, gives, refuses, checked}
 use Rattle.rules.specs.Distances.{distanceSquared}
 use Rattle.rules.specs.Box.{box}
 use Rattle.rules.specs.RetraceAndMarks.{retrace, coordinates, marks}
@@ -50,10 +50,7 @@ unfoldable pub writtenPoints : Answer Counts → ℕ
 writtenPoints (gives c) = c .points
 writtenPoints (refuses number place) = pick (eqb number 6) place 0
 
--- a number that an f64 can have, as those of every f64 slice are; a `Float` may have any precision
-abbrev pub IsF64 : Float → Type 0
-IsF64 x = T (fits binary64 x)
-
+-- the numbers of every f64 slice are these
 unfoldable pub AllF64 : List Float → Type 0
 AllF64 xs = (i : ℕ) → i < length xs → IsF64 (getD xs i nan)
 

@@ -104,7 +104,7 @@ compared = (
 -- ---- paths whose landings are near
 
 -- (0,0)(25,0)(0,0) | (0,1), 0 by 0, Inside: the jump leaves (0,0), at 1. The second cut ends where the path begins; nothing is asked of cuts.
-unfoldable pub closedPath : List Float
+pub closedPath : List Float
 closedPath = along whole ((0, 0) ∷ (25, 0) ∷ (0, 0) ∷ (0, 1) ∷ [])
 
 pub closed-near : LandingsNear closedPath (pairs ((0, 0) ∷ (1, 0) ∷ (1, 1) ∷ (3, 3) ∷ [])) 4
@@ -128,7 +128,7 @@ touch-near (suc zero) l t (suc (suc i)) m = absurd (omega (arith, m))
 touch-near (suc (suc k)) l t i m = absurd (omega (arith, l))
 
 -- (n,0)(n,1) | (0,0): the squared distance of the jump, from (n,1), is greater than that from (n,0) by one part in n². For n = 32,768 that is just what may be.
-unfoldable pub aside : ℕ → List Float
+pub aside : ℕ → List Float
 aside n = along whole ((n, 0) ∷ (n, 1) ∷ (0, 0) ∷ [])
 
 pub limit-near : LandingsNear (aside 32768) (pairs ((0, 0) ∷ (1, 0) ∷ (3, 2) ∷ [])) 3
@@ -146,13 +146,13 @@ beyond-near zero l t i m = absurd (no-landing (lit≤ tt) t)
 beyond-near (suc k) l t i m = absurd (omega (arith, l))
 
 -- the plate above, its path, and its marks
-unfoldable pub passedOver : Plate
+pub passedOver : Plate
 passedOver = drawn tenths ((0, 0) ∷ (78, 39) ∷ (117, 0) ∷ (650, 0) ∷ [] ∣ (78, 0) ∷ [] ∣ []) 0 0 Inside
 
-unfoldable pub passedPath : List Float
+pub passedPath : List Float
 passedPath = along tenths ((0, 0) ∷ (78, 39) ∷ (117, 0) ∷ (650, 0) ∷ (117, 0) ∷ (78, 39) ∷ (78, 0) ∷ [])
 
-unfoldable pub passedMarks : List ℕ
+pub passedMarks : List ℕ
 passedMarks = pairs ((0, 0) ∷ (1, 0) ∷ (1, 1) ∷ (1, 2) ∷ (2, 2) ∷ (2, 1) ∷ (3, 4) ∷ [])
 
 -- they are what the rules give; and the jump, from path point 5, is longer than it would be from path point 4
@@ -169,8 +169,8 @@ unfolding
     seenFrom found wins nearer scanRing bound beyond scanFrom nearest
     sampledAfter sampled cellNumber cellAt sampleAt samplesFrom samples cache cached querySample seeded
     met listed listedRow listedSquare listedAround cellsAround queryIn updatedIn updated waiting askPath keep seed update
-    coincide landingKind land cutUp cutDown backStep stepAt vertexOf walkTo walkBack forward backward returnTo bothWays emit entryOf begin pathPoints closer waitingLayer choose numberOf placeIn
-    entered joinAll retraceFrom retraceOf retrace coordinates marks vertices
+    coincide landingKind land cutUp cutDown backStep stepAt vertexOf walkTo walkBack forward backward returnTo bothWays emit entryOf begin pathPoints
+    closer waitingLayer choose numberOf placeIn entered joinAll retraceFrom retraceOf retrace coordinates marks vertices
 passed-over = (refl, refl, tt)
 
 pub passed-near : LandingsNear passedPath passedMarks 7
@@ -212,7 +212,7 @@ far = (
 
 -- ---- how many path points are written
 
-unfoldable pub sevenPoints : Answer Counts
+pub sevenPoints : Answer Counts
 sevenPoints = gives (record { points = 7; cuts = 3; «back_steps» = 2; jumps = 1; touches = 0 })
 
 -- a result; refusal 6; others, with a place and without
@@ -223,7 +223,7 @@ written = refl
 -- ---- what the statements ask, and what they give
 
 -- (0,0) | (0.1,0) | (0.2,0), 0 by 0, Inside: two jumps
-unfoldable pub inARow : Plate
+pub inARow : Plate
 inARow = drawn tenths ((0, 0) ∷ [] ∣ (1, 0) ∷ [] ∣ (2, 0) ∷ [] ∣ []) 0 0 Inside
 
 -- it has what is asked of a plate
@@ -264,8 +264,8 @@ unfolding
     seenFrom found wins nearer scanRing bound beyond scanFrom nearest
     sampledAfter sampled cellNumber cellAt sampleAt samplesFrom samples cache cached querySample seeded
     met listed listedRow listedSquare listedAround cellsAround queryIn updatedIn updated waiting askPath keep seed update
-    coincide landingKind land cutUp cutDown backStep stepAt vertexOf walkTo walkBack forward backward returnTo bothWays emit entryOf begin pathPoints closer waitingLayer choose numberOf placeIn
-    entered joinAll retraceFrom retraceOf retrace coordinates marks vertices
+    coincide landingKind land cutUp cutDown backStep stepAt vertexOf walkTo walkBack forward backward returnTo bothWays emit entryOf begin pathPoints
+    closer waitingLayer choose numberOf placeIn entered joinAll retraceFrom retraceOf retrace coordinates marks vertices
 given = (
   λ h. h inARow asked-f64 (asked .0) (asked .1),
   λ h. h inARow (along tenths ((9, 9) ∷ (9, 9) ∷ (9, 9) ∷ (9, 9) ∷ [])) (pairs ((9, 9) ∷ (9, 9) ∷ (9, 9) ∷ (9, 9) ∷ [])) 16500 3 asked-f64 (asked .0),

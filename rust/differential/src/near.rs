@@ -5,10 +5,10 @@
 //! landing, and f that from any path point before the landing. Then d × 1,073,741,824 is at most
 //! f × 1,073,741,825, as whole numbers.
 //!
-//! A back-step with the bits of the earlier path point that it names has that point's f, so that it
-//! is not looked at again. Of a path with more than [`MOST`] pairs of a landing and an earlier point
-//! that is left, every k-th earlier point is compared: k is the least that leaves so many pairs, but
-//! for one to a landing, and landings in turn begin with another point.
+//! A back-step with the bits of the earlier path point that it names has that point's f, so that
+//! it is not looked at again. Of a path with more than [`MOST`] pairs of a landing and an earlier
+//! point that remains, every k-th earlier point is compared: k is the least that leaves so many
+//! pairs, but for one to a landing, and landings in turn begin with another point.
 
 use std::cmp::Ordering;
 use std::fmt;
@@ -25,7 +25,7 @@ const TIMES_F: u64 = 1_073_741_825;
 /// So many pairs of a path are compared at most, but for one to a landing.
 const MOST: usize = 16_000_000;
 
-/// A run of as many plates meets jumps with a nearer point left out.
+/// A run of as many plates meets jumps with a nearer point passed over.
 const ENOUGH: u64 = 5_000;
 
 const BACK_STEP: u32 = 2;
@@ -116,7 +116,7 @@ impl fmt::Display for TooFar {
 
 /// A landing with an earlier path point that is nearer than the one before it.
 #[derive(Debug, Clone, Copy, PartialEq)]
-pub struct LeftOut {
+pub struct PassedOver {
     pub d: f64,
     /// The least of those compared.
     pub f: f64,
@@ -124,7 +124,7 @@ pub struct LeftOut {
     pub points: [[f64; 2]; 3],
 }
 
-impl LeftOut {
+impl PassedOver {
     /// By d / f, exactly. Of equal ones either is greater, but always the same.
     fn compare(&self, other: &Self) -> Ordering {
         let product = |d, f| match (Whole::of(d), Whole::of(f)) {
@@ -138,7 +138,7 @@ impl LeftOut {
     }
 }
 
-impl fmt::Display for LeftOut {
+impl fmt::Display for PassedOver {
     fn fmt(&self, formatter: &mut fmt::Formatter<'_>) -> fmt::Result {
         let Self { d, f, points: [before, nearer, landing] } = self;
         // The difference is exact.
@@ -158,7 +158,7 @@ pub struct Looked {
     pub landings: u64,
     /// Pairs of a landing and an earlier point.
     pub compared: u64,
-    pub left_out: Vec<LeftOut>,
+    pub passed_over: Vec<PassedOver>,
     /// Whether some pairs were not compared, for their number.
     pub thinned: bool,
 }
@@ -183,7 +183,7 @@ fn check_most(path: &[[f64; 2]], marks: &[[u32; 2]], most: usize) -> Result<Look
     for place in 0..path.len() {
         if is_landing(place) {
             let first = looked.landings as usize % step;
-            looked.land(path, place, earlier[first.min(earlier.len())..].iter().step_by(step))?;
+            looked.land(path, place, earlier[first..].iter().step_by(step))?;
         }
         if !is_repeated(path, marks, place) {
             earlier.push(place);
@@ -209,7 +209,7 @@ impl Looked {
     ) -> Result<(), TooFar> {
         let [before, landing] = [path[place - 1], path[place]];
         let d = squared(before, landing);
-        let mut least: Option<LeftOut> = None;
+        let mut least: Option<PassedOver> = None;
         for &nearer in earlier {
             let f = squared(path[nearer], landing);
             self.compared += 1;
@@ -217,11 +217,11 @@ impl Looked {
                 return Err(TooFar { place, nearer, d, f });
             }
             if f < least.map_or(d, |least| least.f) {
-                least = Some(LeftOut { d, f, points: [before, path[nearer], landing] });
+                least = Some(PassedOver { d, f, points: [before, path[nearer], landing] });
             }
         }
         self.landings += 1;
-        self.left_out.extend(least);
+        self.passed_over.extend(least);
         Ok(())
     }
 }
@@ -233,19 +233,19 @@ pub struct HowNear {
     thinned: AtomicU64,
     landings: AtomicU64,
     compared: AtomicU64,
-    left_out: AtomicU64,
-    greatest: Mutex<Option<LeftOut>>,
+    passed_over: AtomicU64,
+    greatest: Mutex<Option<PassedOver>>,
 }
 
 impl HowNear {
     pub fn path(&self, path: &[[f64; 2]], marks: &[[u32; 2]]) -> Result<(), TooFar> {
-        let Looked { landings, compared, left_out, thinned } = check(path, marks)?;
+        let Looked { landings, compared, passed_over, thinned } = check(path, marks)?;
         self.paths.fetch_add(1, Relaxed);
         self.thinned.fetch_add(thinned.into(), Relaxed);
         self.landings.fetch_add(landings, Relaxed);
         self.compared.fetch_add(compared, Relaxed);
-        self.left_out.fetch_add(left_out.len() as u64, Relaxed);
-        if let Some(other) = left_out.into_iter().max_by(LeftOut::compare) {
+        self.passed_over.fetch_add(passed_over.len() as u64, Relaxed);
+        if let Some(other) = passed_over.into_iter().max_by(PassedOver::compare) {
             let mut greatest = self.greatest.lock().expect("no thread panics while it compares");
             if greatest.is_none_or(|greatest| greatest.compare(&other).is_lt()) {
                 *greatest = Some(other);
@@ -255,19 +255,19 @@ impl HowNear {
     }
 
     /// The numbers of landings, of earlier points compared, and of landings with a nearer point
-    /// left out.
+    /// passed over.
     pub fn numbers(&self) -> [u64; 3] {
-        [&self.landings, &self.compared, &self.left_out].map(|n| n.load(Relaxed))
+        [&self.landings, &self.compared, &self.passed_over].map(|n| n.load(Relaxed))
     }
 
     /// Prints what was looked at, and says whether a run of that many plates met what it should.
     pub fn print(&self, plates: u64) -> bool {
         let [paths, thinned] = [&self.paths, &self.thinned].map(|n| n.load(Relaxed));
-        let [landings, compared, left_out] = self.numbers();
+        let [landings, compared, passed_over] = self.numbers();
         println!(
             "how near, in {paths} paths as calls wrote them: {landings} landings, {compared} \
-             earlier points compared (of {thinned} long paths not all), {left_out} landings with a \
-             nearer point left out"
+             earlier points compared (of {thinned} long paths not all), {passed_over} landings with a \
+             nearer point passed over"
         );
         match *self.greatest.lock().expect("no thread panics while it compares") {
             Some(greatest) => println!("greatest d / f: {greatest}"),
@@ -281,7 +281,7 @@ impl HowNear {
 mod tests {
     use std::cmp::Ordering;
 
-    use super::{ENOUGH, HowNear, LeftOut, Looked, TooFar, Whole, check, check_most, is_near};
+    use super::{ENOUGH, HowNear, Looked, PassedOver, TooFar, Whole, check, check_most, is_near};
     use crate::floats::{power, scaled};
 
     const LEAST: f64 = f64::from_bits(1);
@@ -409,8 +409,8 @@ mod tests {
             let d = far * far;
             assert_eq!(checked(&path(far)), Err(TooFar { place: 2, nearer: 0, d, f: 1.0 }));
             let points = [[-near, 0.0], [1.0, 0.0], [0.0, 0.0]];
-            let left_out = vec![LeftOut { d: near * near, f: 1.0, points }];
-            assert_eq!(checked(&path(near)), Ok(Looked { left_out, ..looked(1, 2) }));
+            let passed_over = vec![PassedOver { d: near * near, f: 1.0, points }];
+            assert_eq!(checked(&path(near)), Ok(Looked { passed_over, ..looked(1, 2) }));
             assert_eq!(checked(&path(1.0)), Ok(looked(1, 2)));
         }
     }
@@ -505,19 +505,19 @@ mod tests {
         assert_eq!(check_most(&path, &marks, 4), Err(too_far));
     }
 
-    fn left_out(d: f64, f: f64) -> LeftOut {
-        LeftOut { d, f, points: [[d, 0.0], [f, 0.0], [0.0, 0.0]] }
+    fn passed_over(d: f64, f: f64) -> PassedOver {
+        PassedOver { d, f, points: [[d, 0.0], [f, 0.0], [0.0, 0.0]] }
     }
 
     #[test]
     fn ratios_are_compared_exactly() {
         let e = f64::EPSILON;
         let rising = [
-            left_out(2.0, 2.0_f64.next_down()),
-            left_out(1.0 + e, 1.0),
-            left_out(1.0 + 2.0 * e, 1.0 + e / 2.0),
-            left_out(3.0 * LEAST, 2.0 * LEAST),
-            left_out(1e300, 1e-300),
+            passed_over(2.0, 2.0_f64.next_down()),
+            passed_over(1.0 + e, 1.0),
+            passed_over(1.0 + 2.0 * e, 1.0 + e / 2.0),
+            passed_over(3.0 * LEAST, 2.0 * LEAST),
+            passed_over(1e300, 1e-300),
         ];
         for (place, a) in rising.iter().enumerate() {
             for (other, b) in rising.iter().enumerate() {
@@ -525,7 +525,7 @@ mod tests {
             }
         }
         // As great: by d.
-        assert_eq!(left_out(6.0, 4.0).compare(&left_out(3.0, 2.0)), Ordering::Greater);
+        assert_eq!(passed_over(6.0, 4.0).compare(&passed_over(3.0, 2.0)), Ordering::Greater);
     }
 
     #[test]
@@ -546,7 +546,7 @@ mod tests {
         assert!(add(2.0).is_err());
         assert_eq!(near.numbers(), [4, 8, 3]);
         assert!(near.print(ENOUGH));
-        let text = left_out(1.0 + power(-40), 1.0).to_string();
+        let text = passed_over(1.0 + power(-40), 1.0).to_string();
         assert!(text.contains("1 + 9.095e-13: 1 part in 1024 "), "{text}");
     }
 }

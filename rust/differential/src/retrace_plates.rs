@@ -1,13 +1,13 @@
 //! Plates for the retrace call: those of `plates`, others that lie at the edges of what its grid,
-//! its search and its samples decide, those of `left_out` among them, and those of `meeting`.
+//! its search and its samples decide, those of `passed_over` among them, and those of `meeting`.
 
 use harness::plates::{falling_layers, in_rows, rows as rows_of, touching_rows};
 use harness::random::Random;
 use twillharbor::Size;
 
 use crate::floats::nudged;
-use crate::left_out;
 use crate::meeting::{self, MEETINGS, Meeting};
+use crate::passed_over;
 use crate::plates::{
     self, LIMIT, MOST_CONTOURS, MOST_POINTS, Plate, all_contours, all_points, of_lengths, up_to,
 };
@@ -19,7 +19,7 @@ pub enum Kind {
     Of(plates::Kind),
     GridEdges,
     RingBounds,
-    LeftOut,
+    PassedOver,
     CellSteps,
     Scattered,
     Rows,
@@ -29,7 +29,7 @@ pub enum Kind {
 const MORE: [(Kind, &str); 6] = [
     (Kind::GridEdges, "points at the edges of their grid's cells"),
     (Kind::RingBounds, "points as far apart as a ring's bound"),
-    (Kind::LeftOut, "points in the ring that is left, nearer than the one that is found"),
+    (Kind::PassedOver, "points in the ring that is left, nearer than the one that is found"),
     (Kind::CellSteps, "contours that step by parts of a cell"),
     (Kind::Scattered, "scattered single points"),
     (Kind::Rows, "rows of up to 65,536 points"),
@@ -69,7 +69,7 @@ pub fn plate(kind: Kind, random: &mut Random) -> Plate {
         }
         Kind::GridEdges => framed(at_edges, random),
         Kind::RingBounds => ring_bounds(random),
-        Kind::LeftOut => left_out::plate(random),
+        Kind::PassedOver => passed_over::plate(random),
         Kind::CellSteps => framed(steps, random),
         Kind::Scattered => scattered(random),
         Kind::Rows => rows(random),

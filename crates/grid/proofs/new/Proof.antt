@@ -2,7 +2,7 @@
 use mathlib.Core.Path.{_≡_, sym, subst}
 use lib.Ieee.{ofBits}
 use Rattle.rules.specs.GridAndNearest.{gridOf}
-use Rattle.rules.specs.HowNear.{IsF64}
+use Rattle.rules.specs.HandedOver.{IsF64}
 use Rattle.rules.specs.declared.BoundingBox.{BoundingBox}
 use Rattle.rules.specs.declared.SpatialGrid.{SpatialGrid}
 use Rattle.bounds.specs.Boxes.{Sound}

@@ -14,7 +14,7 @@ use Rattle.rules.specs.RetraceAndMarks.{retrace}
 use Rattle.path.specs.Accepted.{Accepted, checked-gives}
 use Rattle.plate.specs.Answer.{checkedAnswer}
 use Rattle.path_points.specs.Wrote.{Wrote}
-use Rattle.retrace.proofs.Outcome.{Met, Divided, Near, met-refused, met-short, met-short-distances, met-full, met-whole, counted, divides, near}
+use Rattle.retrace.proofs.Outcome.{Met, Divided, WrittenNear, met-refused, met-short, met-short-distances, met-full, met-whole, counted, divides, near}
 use borrow.Author.Needs.{needs}
 use Rattle.retrace.proofs.retrace_call.Statement.{statement}
 use Rattle.retrace.proofs.retrace_call.Tie as tie
@@ -114,7 +114,7 @@ met : (f : tie.After-shared-slice-known) {a : Answer Counts} {path : List Float}
     Met (handed s) (s .args .path .now) (s .args .marks .now) (s .args .work .now) (s .args .distances .now) a path marks work distances →
     Met (handed s) (s .args .path .now) (s .args .marks .now) (s .args .work .now) (s .args .distances .now) a path marks work distances
     × Divided (handed s) a path marks
-    × Near a path marks
+    × WrittenNear a path marks
 met f work distances m =
     let s = f .before in
     let n = length (s .args .work .now) in

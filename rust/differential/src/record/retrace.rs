@@ -61,9 +61,9 @@ struct Row {
 
 /// The rows: document 01's plates A and D to G, others that separate one rule from another,
 /// plates whose contours meet, plates that are refused, plates that document 02's layers decide,
-/// then two of each kind of plate, in layers, but one of each kind whose contours meet (more would
-/// not fit the replaying program's room), the same number of each damage, and one plate by hand
-/// whose path leaves out a nearer point.
+/// then two of each kind of plate but those of `passed_over`, in layers, but one of each kind whose
+/// contours meet (more would not fit the replaying program's room), the same number of each damage,
+/// and one plate by hand on which the search passes over a nearer point.
 pub fn retraces() -> String {
     let rows = rows();
     let mut words = Words::default();
@@ -81,14 +81,14 @@ fn rows() -> Vec<Row> {
     rows.extend(kind_rows(rows.len(), random));
     rows.extend(meeting_rows(random));
     rows.extend(damaged_rows(random));
-    let points = points_of(&left_out(), Inside);
-    rows.push(fitted(left_out(), Inside, 2 * points, 2 * points));
+    let points = points_of(&passed_over(), Inside);
+    rows.push(fitted(passed_over(), Inside, 2 * points, 2 * points));
     rows
 }
 
 /// The jump comes from (7.8,3.9), though (11.7,0) is nearer: it lies in the ring whose bound ends
 /// the search.
-fn left_out() -> Plate {
+fn passed_over() -> Plate {
     const LINE: &[(f64, f64)] = &[(0.0, 0.0), (7.8, 3.9), (11.7, 0.0), (65.0, 0.0)];
     plate_of(&[LINE, &[(7.8, 0.0)]], Size::default())
 }
@@ -144,11 +144,11 @@ fn layered_rows(random: &mut Random) -> Vec<Row> {
     rows
 }
 
-/// Plates of each kind but those whose contours meet and those that leave out a nearer point. The
+/// Plates of each kind but those whose contours meet and those that pass over a nearer point. The
 /// slices come in turn over all kinds, so that each meets each.
 fn kind_rows(first: usize, random: &mut Random) -> Vec<Row> {
     let of_layers = &mut Random::new(22);
-    let others = |kind: Kind| !matches!(kind, Kind::Meeting(_) | Kind::LeftOut);
+    let others = |kind: Kind| !matches!(kind, Kind::Meeting(_) | Kind::PassedOver);
     let kinds = KINDS.into_iter().filter(|&(kind, _)| others(kind));
     let kinds = kinds.flat_map(|(kind, _)| [kind; PLATES]);
     let rows = kinds.enumerate().map(|(turn, kind)| {
@@ -433,10 +433,10 @@ mod tests {
     use super::super::tests::{MOST_BYTES, words};
     use super::super::{MOST_COORDINATES, MOST_LAYERS, MOST_LENGTHS};
     use super::{
-        LETTERED, MARKS_FILL, MOST_DISTANCES, MOST_ELEMENTS, MOST_WORK, PATH_FILL, PLATE_E,
-        left_out, marked, retraces, worked_out,
+        LETTERED, MARKS_FILL, MOST_DISTANCES, MOST_ELEMENTS, MOST_WORK, PATH_FILL, PLATE_E, marked,
+        passed_over, retraces, worked_out,
     };
-    use crate::near::{self, LeftOut};
+    use crate::near::{self, PassedOver};
     use crate::rule::retrace::TOUCH;
 
     /// Reads the rows as a program without Rust would, and calls the library.
@@ -517,8 +517,8 @@ mod tests {
 
     /// By the reference and by the library.
     #[test]
-    fn a_nearer_point_is_left_out_within_the_limit() {
-        let plate = left_out();
+    fn a_nearer_point_is_passed_over_within_the_limit() {
+        let plate = passed_over();
         let due = worked_out(&plate, Inside).unwrap();
         assert_eq!(due.marks, [[0, 0], [1, 0], [1, 1], [1, 2], [2, 2], [2, 1], [3, 4]]);
         let is = twillharbor::Plate::new(&plate.points, &plate.lengths)
@@ -530,8 +530,8 @@ mod tests {
         for (path, marks) in [(&due.path, &due.marks), (&path, &marks)] {
             let looked = near::check(path, marks).unwrap();
             let points = [[7.8, 3.9], [11.7, 0.0], [7.8, 0.0]];
-            let nearer = LeftOut { d: 15.209999999999999, f: 15.209999999999996, points };
-            assert_eq!(looked.left_out, [nearer]);
+            let nearer = PassedOver { d: 15.209999999999999, f: 15.209999999999996, points };
+            assert_eq!(looked.passed_over, [nearer]);
             assert_eq!((looked.landings, looked.compared), (1, 4));
         }
     }

@@ -1,4 +1,4 @@
-//! Plates on which the ring search may leave out a nearer point.
+//! Plates on which the ring search may pass over a nearer point.
 //!
 //! Two points of a line lie at the ends of two columns, r - 1 columns apart. Rounded, these ends can
 //! be nearer to one another than r - 1 cell sizes. A third point is then put a little farther from
@@ -236,13 +236,13 @@ mod tests {
     }
 
     #[test]
-    fn a_nearer_point_is_left_out_of_one_in_ten_or_more() {
+    fn a_nearer_point_is_passed_over_of_one_in_ten_or_more() {
         let mut random = Random::new(3);
         let mut plates = 0;
         for _ in 0..600 {
             let due = retrace(&plate(&mut random), Inside, 1_000).unwrap().unwrap();
             let looked = near::check(&due.path, &due.marks).unwrap();
-            plates += u32::from(!looked.left_out.is_empty());
+            plates += u32::from(!looked.passed_over.is_empty());
         }
         assert!(plates >= 60, "{plates} of 600");
     }

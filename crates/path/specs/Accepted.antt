@@ -68,7 +68,7 @@ pub record Layered (m : ℕ) (ls : List ℕ) : Type 0 where
   pub counted : length ls ≡ m
   pub shallow : All (λ l. l ≤ highestLayer) ls
 
--- what an answer that is none of refusals 1 to 3, not 4, or none of 1 to 4 and 13, has passed
+-- what an answer has passed that is none of refusals 1 to 3; one that is not 4; and one that is none of these and not 13
 counted-other : {A : Type 0} (xs : List Float) (ns : List ℕ) (later b : Answer A) → Other 1 b → Other 2 b → Other 3 b → counted xs ns later ≡ b →
     (length ns ≤ 4096) × (sum ns ≤ 65536) × (length xs ≡ 2 * sum ns) × (later ≡ b)
 unfolding counted

@@ -91,8 +91,8 @@ refuse-same true number place a k e = (refl, let z : place ≡ k = cc in sym z)
 refuse-same false number place a k e = let z : _≡_ {A = ℕ} 0 1 = cc in absurd (omega arith)
 
 -- another number than 6
-six : (n : ℕ) → T (not (eqb 6 n)) → 6 ≡ n → ⊥
-six n t e = subst (λ (m : ℕ). T (not (eqb 6 m))) (sym e) t
+not-six : (n : ℕ) → T (not (eqb 6 n)) → 6 ≡ n → ⊥
+not-six n t e = subst (λ (m : ℕ). T (not (eqb 6 m))) (sym e) t
 
 -- and with refusal 6
 pub retrace-full : (p : Plate) (path : List Float) (ms : List ℕ) (w d k : ℕ) → retraceCall p path ms w d .answer ≡ refuses 6 k →
@@ -100,10 +100,10 @@ pub retrace-full : (p : Plate) (path : List Float) (ms : List ℕ) (w d k : ℕ)
 unfolding retraceCall retraceWork fitted
 retrace-full p path ms w d k e =
     let others : OtherThanChecks {A = Counts} (refuses 6 k) =
-    record { contours = six 1 tt; points = six 2 tt; counted = six 3 tt; layers = six 13 tt; on-plate = six 4 tt } in
+    record { contours = not-six 1 tt; points = not-six 2 tt; counted = not-six 3 tt; layers = not-six 13 tt; on-plate = not-six 4 tt } in
     let accepted = checked-other (p .points) (p .lengths) (p .layers) _ (refuses 6 k) others e in
-    let e1 = refuse-other _ _ _ _ (refuses 6 k) (six 5 tt) (accepted .2) in
-    let e2 = refuse-other _ _ _ _ (refuses 6 k) (six 5 tt) (e1 .1) in
+    let e1 = refuse-other _ _ _ _ (refuses 6 k) (not-six 5 tt) (accepted .2) in
+    let e2 = refuse-other _ _ _ _ (refuses 6 k) (not-six 5 tt) (e1 .1) in
     let (full, same) = refuse-same _ _ _ _ k (e2 .1) in
     (accepted .0, layered-part p (accepted .1), same, omega (arith, ltb-true (retraceRoom (length path) (length ms)) (length (retrace p)) full, same))
 

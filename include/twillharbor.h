@@ -20,20 +20,25 @@
  *   No. Word                Condition
  *   1   too many contours   M above 4,096
  *   2   too many points     the lengths sum to more than 65,536
- *   3   miscounted          point slice length is not twice that sum
+ *   3   miscounted          point slice length is not twice that sum; the check call: path
+ *                           slice length is odd, or there are not two marks a path point
  *   13  bad layer           layer slice length is not M, or a layer is above 15
  *   4   off the plate       a coordinate is NaN, infinite or of magnitude above
  *                           1,000,000 (the distance call: 2,147,483,648)
  *   5   work short          u32 work below C + 4P + 8M + 16,384 or f64 work below M
- *                           (retrace); u32 work below M (order, straight)
+ *                           (retrace); u32 work below M (order, straight), below P + M
+ *                           (check)
  *   6   full                the result has more than C points or order entries
  *   7   blank               the start call only: no contour holds a point
+ *   12  path does not       the check call only: a path point breaks a rule, or a segment
+ *       draw the plate      is not cut, or a contour not entered
  *
- * They are tested from the top of this table to its end, 13 between 3 and 4; the first that
- * holds wins. The place is, for 13, M where the slice's length is wrong, else the number of
- * the first contour whose layer is above 15; for 4 the first such coordinate's place in the
- * slice; for 5 zero (u32) or one (f64, u32 being enough); for 6 C; otherwise 0. A call says
- * which of these it can give.
+ * They are tested from the top of this table to its end, 13 between 3 and 4, and the check
+ * call's 3 of path and marks after 4; the first that holds wins. The place is, for 13, M where
+ * the slice's length is wrong, else the number of the first contour whose layer is above 15;
+ * for 4 the first such coordinate's place in the slice; for 5 zero (u32) or one (f64, u32 being
+ * enough); for 6 C; for 12 the first path point that breaks a rule, or else the number of path
+ * points; otherwise 0. A call says which of these it can give.
  *
  * Slices. A slice is two arguments: the pointer to its first element, then the number
  * of its elements, a size_t. The pointer is aligned for its elements and not NULL, also
@@ -59,6 +64,7 @@ enum twillharbor_refusal {
     TWILLHARBOR_WORK_SHORT = 5,
     TWILLHARBOR_FULL = 6,
     TWILLHARBOR_BLANK = 7,
+    TWILLHARBOR_PATH_DOES_NOT_DRAW = 12,
     TWILLHARBOR_BAD_LAYER = 13
 };
 
@@ -243,6 +249,50 @@ struct twillharbor_retrace_result twillharbor_retrace(
     uint32_t *marks, size_t marks_length,
     uint32_t *work, size_t work_length,
     double *distances, size_t distances_length);
+
+struct twillharbor_check_path_result {
+    uint32_t number;
+    uint64_t place;
+};
+
+/*
+ * Whether a path with marks, from wherever it comes, draws the plate: `number` is 0 if it does.
+ * Each path that the retrace call finishes does. The plate has no layers here, no size and no
+ * strategy, and a landing may be far from the path.
+ *
+ * path    each path point's horizontal, then its vertical coordinate
+ * marks   two numbers a path point, its kind and its reference, as retrace writes them
+ * work    at least P + M numbers
+ *
+ * Coordinates are compared by their bits. The rules:
+ *
+ *   - The first mark, and no other, is a start.
+ *   - A start, a jump and a touch name a vertex of a contour not entered before, which they
+ *     enter, and have its coordinates. As numbers the path point before a jump differs from
+ *     the jump's own, and the one before a touch is equal: there 0 and -0 are equal.
+ *   - A cut r and the path point before it have the coordinates of vertices r and r + 1, in
+ *     either order, which are of one contour; that contour was entered before, and this
+ *     segment not cut before.
+ *   - A back-step k and the path point before it have the coordinates of path points k and
+ *     k + 1, both of them earlier than the back-step's own.
+ *   - In the end each segment is cut, and each contour that holds a point is entered.
+ *
+ * So it is points that decide, not vertex numbers: a cut may leave a point of another contour
+ * that has the bits of its segment's end. Where no contour holds a point, the empty path alone
+ * draws the plate.
+ *
+ * Refusals 1 to 4 of the plate, then 3 where the path slice's length is odd or the marks slice
+ * is not as long, then 5. Then 12: its place is the first path point that breaks a rule, or the
+ * number of path points where none does and something is uncut or not entered. A NaN in the
+ * path breaks a rule at its path point. The call only reads path and marks. After 0 and 12 the
+ * work slice has free content; the other refusals alter nothing.
+ */
+struct twillharbor_check_path_result twillharbor_check_path(
+    const double *points, size_t points_length,
+    const uint32_t *lengths, size_t lengths_length,
+    const double *path, size_t path_length,
+    const uint32_t *marks, size_t marks_length,
+    uint32_t *work, size_t work_length);
 
 #ifdef __cplusplus
 }

@@ -8,7 +8,7 @@ use native.Mathlib.Omega.{arith}
 use lib.Dec.{T, leb}
 use lib.Ieee.{Float, nan}
 use lib.ListN.{length}
-use borrow.Author.Tests.{ltb-false, leb-true, eqb-true, not-false}
+use borrow.Author.Tests.{ltb-false, le-ltb, leb-true, eqb-true, eq-eqb, not-false}
 use Rattle.rules.specs.Tools.{pick, sum, highestLayer}
 use Rattle.rules.specs.HandedOver.{Plate, at, Answer, gives, refuses, inRange, plateLimit, firstOff, firstBad, refuseIf, counted, layered, onPlate, checkedContours, checked}
 use Rattle.rules.specs.Distances.{distanceSquared}
@@ -29,6 +29,13 @@ pub refuse-other : {A : Type 0} (t : Bool) (number place : ℕ) (later b : Answe
 unfolding refuseIf
 refuse-other true number place later b o e = absurd (subst (Other number) (sym e) o refl)
 refuse-other false number place later b o e = (refl, e)
+
+-- one that refused: what comes after it is no refusal with this number
+pub refuse-tells : {A : Type 0} (t : Bool) (number place : ℕ) (later : Answer A) → Other number later → (i : ℕ) →
+    refuseIf t number place later ≡ refuses number i → T t × (place ≡ i)
+unfolding refuseIf
+refuse-tells true number place later o i e = (tt, cc)
+refuse-tells false number place later o i e = absurd (subst (Other number) e o refl)
 
 pub refuse-gives : {A : Type 0} (t : Bool) (number place : ℕ) (later : Answer A) (c : A) → refuseIf t number place later ≡ gives c →
     (t ≡ false) × (later ≡ gives c)
@@ -117,13 +124,40 @@ pub checked-gives : {A : Type 0} (xs : List Float) (ns ls : List ℕ) (later : A
 checked-gives xs ns ls later c e =
     checked-other xs ns ls later (gives c) (record { contours = tt; points = tt; counted = tt; layers = tt; on-plate = tt }) e
 
+-- contours without layers: an answer that is none of refusals 1 to 4, and a result
+pub contours-other : {A : Type 0} (xs : List Float) (ns : List ℕ) (later b : Answer A) → Other 1 b → Other 2 b → Other 3 b → Other 4 b →
+    checkedContours xs ns later ≡ b → Accepted xs ns × (later ≡ b)
+unfolding checkedContours
+contours-other xs ns later b o1 o2 o3 o4 e =
+    let n = counted-other xs ns _ b o1 o2 o3 e in
+    let p = on-plate-other xs later b o4 (n .3) in
+    (record { contours = n .0; points = n .1; counted = n .2; on-plate = p .0 }, p .1)
+
 pub contours-gives : {A : Type 0} (xs : List Float) (ns : List ℕ) (later : Answer A) (c : A) → checkedContours xs ns later ≡ gives c →
     Accepted xs ns × (later ≡ gives c)
-unfolding checkedContours
-contours-gives xs ns later c e =
-    let n = counted-gives xs ns _ c e in
-    let p = on-plate-other xs later (gives c) tt (n .3) in
-    (record { contours = n .0; points = n .1; counted = n .2; on-plate = p .0 }, p .1)
+contours-gives xs ns later c e = contours-other xs ns later (gives c) tt tt tt tt e
+
+-- and back: what is accepted passes
+first-on : (limit : Float) (i : ℕ) (xs : List Float) → All (λ x. T (inRange limit x)) xs → firstOff limit i xs ≡ i + length xs
+unfolding firstOff pick
+first-on limit i [] a = omega arith
+first-on limit i (x ∷ xs) a = go (inRange limit x) (a .0) (first-on limit (suc i) xs (a .1))
+  where
+    go : (t : Bool) → T t → firstOff limit (suc i) xs ≡ suc i + length xs → pick t (firstOff limit (suc i) xs) i ≡ i + suc (length xs)
+    go true t e = omega (arith, e)
+    go false t e = absurd t
+
+pub contours-passes : {A : Type 0} (xs : List Float) (ns : List ℕ) → Accepted xs ns → (later : Answer A) → checkedContours xs ns later ≡ later
+unfolding checkedContours counted onPlate refuseIf
+contours-passes xs ns a later =
+    let all : firstOff plateLimit 0 xs ≡ 0 + length xs = first-on plateLimit 0 xs (a .on-plate) in
+    rw (
+      le-ltb 4096 (length ns) (a .contours),
+      le-ltb 65536 (sum ns) (a .points),
+      eq-eqb (length xs) (2 * sum ns) (a .counted),
+      le-ltb (firstOff plateLimit 0 xs) (length xs) (omega (arith, all)),
+    )
+    refl
 
 -- ---- points and distances
 

@@ -5,14 +5,15 @@ use mathlib.Core.List.{List, [], _∷_, _++_, map}
 use mathlib.Core.Logic.{_⊎_, inl, inr}
 use Prim.Native.Nat.{ℕ, zero, suc, _+_, _≤_, _<_}
 use native.Mathlib.Nat.{zero-add}
+use native.Mathlib.Decide.{decLe}
 use native.Mathlib.Omega.{arith}
 use lib.Dec.{eqb}
 use lib.ListN.{length, getD, take, drop}
 use borrow.Author.Tests.{eq-eqb, ne-eqb}
 use Rattle.rules.specs.Tools.{pick, sum, without}
-use Rattle.rules.specs.HandedOver.{Plate, Contour, contoursFrom, contours}
+use Rattle.rules.specs.HandedOver.{Plate, Contour, contoursFrom, contoursOf, contours}
 use Rattle.rules.specs.OrderAndStraight.{contourNumber}
-use Rattle.rules.specs.PathStatement.{Among, IsContour, Of, NotOf}
+use Rattle.rules.specs.PathStatement.{Among, IsContour, Of, OfOne, NotOf}
 use Rattle.path.specs.Lists.{All, all-give, all-at, all-without}
 use Rattle.path.specs.Sums.{sum-ones}
 
@@ -107,10 +108,30 @@ sum-others f c (d ∷ ds) r (inr m) =
 pub length-others : (c : Contour) (cs : List Contour) → Rising cs → Among c cs → length cs ≡ suc (length (others c cs))
 length-others c cs r m = omega (arith, sum-others (λ d. 1) c cs r m, sum-ones cs, sum-ones (others c cs))
 
+-- a vertex is of one contour only
+pub one-of : (cs : List Contour) → Rising cs → (c d : Contour) (v : ℕ) → Among c cs → Among d cs → Of c v → Of d v → c ≡ d
+one-of [] r c d v m n a b = absurd m
+one-of (x ∷ xs) r c d v (inl e) (inl f) a b = sym e ∙ f
+one-of (x ∷ xs) r c d v (inl e) (inr n) a b =
+    let h = subst (λ (y : Contour). After y d) e (all-among (After x) xs (r .0) d n) in absurd (omega (arith, h .vertices))
+one-of (x ∷ xs) r c d v (inr m) (inl f) a b =
+    let h = subst (λ (y : Contour). After y c) f (all-among (After x) xs (r .0) c m) in absurd (omega (arith, h .vertices))
+one-of (x ∷ xs) r c d v (inr m) (inr n) a b = one-of xs (r .1) c d v m n a b
+
+-- and a number is one contour's only
+pub one-number : (cs : List Contour) → Rising cs → (c d : Contour) → Among c cs → Among d cs → c .number ≡ d .number → c ≡ d
+one-number [] r c d m n e = absurd m
+one-number (x ∷ xs) r c d (inl f) (inl g) e = sym f ∙ g
+one-number (x ∷ xs) r c d (inl f) (inr n) e =
+    let e′ : x .number ≡ d .number = rw f e in absurd (omega (arith, e′, all-among (After x) xs (r .0) d n .numbers))
+one-number (x ∷ xs) r c d (inr m) (inl g) e =
+    let e′ : c .number ≡ x .number = rw g e in absurd (omega (arith, e′, all-among (After x) xs (r .0) c m .numbers))
+one-number (x ∷ xs) r c d (inr m) (inr n) e = one-number xs (r .1) c d m n e
+
 -- ---- the contours of a plate
 
 -- those from contour j and vertex v on
-from-on : (j v : ℕ) (ns : List ℕ) → All (λ c. (j ≤ c .number) × (v ≤ c .first) × (c .first + c .last < v + sum ns)) (contoursFrom j v ns)
+pub from-on : (j v : ℕ) (ns : List ℕ) → All (λ c. (j ≤ c .number) × (v ≤ c .first) × (c .first + c .last < v + sum ns)) (contoursFrom j v ns)
 unfolding contoursFrom sum
 from-on j v [] = tt
 from-on j v (zero ∷ ns) = all-give _ _ (λ c h. (omega arith, omega arith, omega arith)) (contoursFrom (suc j) v ns) (from-on (suc j) v ns)
@@ -119,7 +140,7 @@ from-on j v (suc n ∷ ns) = (
   all-give _ _ (λ c h. (omega arith, omega arith, omega arith)) (contoursFrom (suc j) (v + suc n) ns) (from-on (suc j) (v + suc n) ns),
 )
 
-rising-from : (j v : ℕ) (ns : List ℕ) → Rising (contoursFrom j v ns)
+pub rising-from : (j v : ℕ) (ns : List ℕ) → Rising (contoursFrom j v ns)
 unfolding contoursFrom
 rising-from j v [] = tt
 rising-from j v (zero ∷ ns) = rising-from (suc j) v ns
@@ -136,16 +157,6 @@ contours-rise p = rising-from 0 0 (p .lengths)
 pub all-contours : (p : Plate) → All (IsContour p) (contours p)
 all-contours p = among-all (IsContour p) (contours p) (λ c m. m)
 
--- a vertex is of one contour only
-one-of : (cs : List Contour) → Rising cs → (c d : Contour) (v : ℕ) → Among c cs → Among d cs → Of c v → Of d v → c ≡ d
-one-of [] r c d v m n a b = absurd m
-one-of (x ∷ xs) r c d v (inl e) (inl f) a b = sym e ∙ f
-one-of (x ∷ xs) r c d v (inl e) (inr n) a b =
-    let h = subst (λ (y : Contour). After y d) e (all-among (After x) xs (r .0) d n) in absurd (omega (arith, h .vertices))
-one-of (x ∷ xs) r c d v (inr m) (inl f) a b =
-    let h = subst (λ (y : Contour). After y c) f (all-among (After x) xs (r .0) c m) in absurd (omega (arith, h .vertices))
-one-of (x ∷ xs) r c d v (inr m) (inr n) a b = one-of xs (r .1) c d v m n a b
-
 pub contour-one : (p : Plate) (c d : Contour) (v : ℕ) → IsContour p c → IsContour p d → Of c v → Of d v → c ≡ d
 contour-one p c d v m n a b = one-of (contours p) (contours-rise p) c d v m n a b
 
@@ -153,6 +164,21 @@ contour-one p c d v m n a b = one-of (contours p) (contours-rise p) c d v m n a 
 pub contour-in : (p : Plate) (c : Contour) → IsContour p c → c .first + c .last < sum (p .lengths)
 unfolding contours
 contour-in p c m = let h = all-among _ (contours p) (from-on 0 0 (p .lengths)) c m in omega (arith, h)
+
+-- each vertex is one of a contour's
+cover-from : (j v : ℕ) (ns : List ℕ) (u : ℕ) → v ≤ u → u < v + sum ns → OfOne (contoursFrom j v ns) u
+unfolding contoursFrom sum
+cover-from j v [] u l h = absurd (omega arith)
+cover-from j v (zero ∷ ns) u l h = cover-from (suc j) v ns u l (omega arith)
+cover-from j v (suc n ∷ ns) u l h = go (decLe (v + suc n) u) (cover-from (suc j) (v + suc n) ns u)
+  where
+    go : Dec (v + suc n ≤ u) → (v + suc n ≤ u → u < v + suc n + sum ns → OfOne (contoursFrom (suc j) (v + suc n) ns) u) →
+        OfOne (contoursFrom j v (suc n ∷ ns)) u
+    go (yes x) later = let (c, m, o) = later x (omega arith) in (c, inr m, o)
+    go (no x) later = (record { number = j; first = v; last = n }, inl refl, (l, omega (arith, x)))
+
+pub of-one : (ns : List ℕ) (u : ℕ) → u < sum ns → OfOne (contoursOf ns) u
+of-one ns u h = cover-from 0 0 ns u (omega arith) (omega arith)
 
 segments-from : (j v : ℕ) (ns : List ℕ) → sum (map (λ c. c .last) (contoursFrom j v ns)) + length (contoursFrom j v ns) ≡ sum ns
 unfolding contoursFrom sum
@@ -167,7 +193,7 @@ sum-segments p = segments-from 0 0 (p .lengths)
 
 -- ---- their numbers
 
-numbers-from : (j v : ℕ) (ns : List ℕ) → All (λ c. c .number < j + length ns) (contoursFrom j v ns)
+pub numbers-from : (j v : ℕ) (ns : List ℕ) → All (λ c. c .number < j + length ns) (contoursFrom j v ns)
 unfolding contoursFrom
 numbers-from j v [] = tt
 numbers-from j v (zero ∷ ns) = all-give _ _ (λ c h. omega arith) (contoursFrom (suc j) v ns) (numbers-from (suc j) v ns)

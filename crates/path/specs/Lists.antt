@@ -8,6 +8,11 @@ use lib.Dec.{eqb}
 use lib.ListN.{length, getD}
 use Rattle.rules.specs.Tools.{pick, foldl, upFrom, downTo, without}
 
+-- a list of length 0
+pub empty : {A : Type 0} (xs : List A) → length xs ≡ 0 → xs ≡ []
+empty [] e = refl
+empty (x ∷ xs) e = absurd (omega arith)
+
 -- ---- all of a list
 
 abbrev pub All {ℓ} : {A : Type ℓ} → (A → Type 0) → List A → Type 0

@@ -24,22 +24,21 @@
 -- The pairs are proved in Entering (over Pairs, Runs and Emission; the nine cells in Nearest, over Squares and Rings), the numbers in Totals (over Shares),
 -- both by the induction over the joining in Joining; the slices in Slices; and what a result says of the plate in Accepted. Assumes nothing.
 use mathlib.Core.Path.{_≡_, refl, sym, ap, _∙_, subst}
-use mathlib.Core.Bool.{Bool, true, false, not}
+use mathlib.Core.Bool.{not}
 use mathlib.Core.List.{List, _++_}
 use Prim.Native.Nat.{ℕ, suc, _*_, _≤_, _<_}
 use native.Mathlib.Omega.{arith}
-use lib.Dec.{T, eqb}
+use lib.Dec.{T, eqb, ltb→lt}
 use lib.Ieee.{Float}
 use lib.ListN.{length, take, drop}
 use lib.Seq.{length-take-le, take-at}
-use borrow.Author.Tests.{ltb-true}
 use Rattle.rules.specs.Tools.{pick}
 use Rattle.rules.specs.HandedOver.{Plate, Answer, gives, refuses, refuseIf, retraceRoom, retraceWork, fitted, over, after}
 use Rattle.rules.specs.RetraceAndMarks.{vertexOf, retrace, coordinates, marks}
 use Rattle.rules.specs.Calls.{counts, vertices, retraceCall}
 use Rattle.rules.specs.PathStatement.{contourCount, vertexIn, Divides, PathStatement}
 use Rattle.rules.specs.declared.Counts.{Counts}
-use Rattle.path.specs.Accepted.{refuse-other, refuse-gives, Accepted, OtherThanChecks, checked-other, checked-gives, Measurable, accepted-measurable}
+use Rattle.path.specs.Accepted.{refuse-other, refuse-tells, refuse-gives, Accepted, OtherThanChecks, checked-other, checked-gives, Measurable, accepted-measurable}
 use Rattle.path.specs.Start.{AllTakePart, layered-part}
 use Rattle.path.specs.Pairs.{pair-same, divided-some, divided-start, divided-pairs, divided-length}
 use Rattle.path.specs.Entering.{retrace-divided}
@@ -84,12 +83,6 @@ retrace-gives p path ms w d c e =
     let e3 = refuse-gives _ _ _ _ c (e2 .1) in
     (accepted .0, layered-part p (accepted .1), cc (e3 .1))
 
--- a condition that refused, what comes after it being a result
-refuse-same : {A : Type 0} (t : Bool) (number place : ℕ) (a : A) (k : ℕ) → refuseIf t number place (gives a) ≡ refuses number k → (t ≡ true) × (k ≡ place)
-unfolding refuseIf
-refuse-same true number place a k e = (refl, let z : place ≡ k = cc in sym z)
-refuse-same false number place a k e = let z : _≡_ {A = ℕ} 0 1 = cc in absurd (omega arith)
-
 -- another number than 6
 not-six : (n : ℕ) → T (not (eqb 6 n)) → 6 ≡ n → ⊥
 not-six n t e = subst (λ (m : ℕ). T (not (eqb 6 m))) (sym e) t
@@ -104,8 +97,8 @@ retrace-full p path ms w d k e =
     let accepted = checked-other (p .points) (p .lengths) (p .layers) _ (refuses 6 k) others e in
     let e1 = refuse-other _ _ _ _ (refuses 6 k) (not-six 5 tt) (accepted .2) in
     let e2 = refuse-other _ _ _ _ (refuses 6 k) (not-six 5 tt) (e1 .1) in
-    let (full, same) = refuse-same _ _ _ _ k (e2 .1) in
-    (accepted .0, layered-part p (accepted .1), same, omega (arith, ltb-true (retraceRoom (length path) (length ms)) (length (retrace p)) full, same))
+    let (full, same) = refuse-tells _ _ _ _ tt k (e2 .1) in
+    (accepted .0, layered-part p (accepted .1), sym same, omega (arith, ltb→lt (retraceRoom (length path) (length ms)) (length (retrace p)) full, same))
 
 -- an output slice after a result of n numbers
 pub slice-after : {A B : Type 0} (a : Answer A) (c : A) (room n : ℕ) (result slice : List B) → a ≡ gives c → length result ≡ n →

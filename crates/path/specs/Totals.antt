@@ -11,7 +11,7 @@ use borrow.Author.Tests.{eqb-true, ne-eqb}
 use Rattle.rules.specs.Tools.{pick, sum, upFrom}
 use Rattle.rules.specs.HandedOver.{Plate, Contour, contours}
 use Rattle.rules.specs.RetraceAndMarks.{cutKind, jumpKind, touchKind, Step, land, cutUp, cutDown, backStep, retrace, marks, countMarks, marksOf}
-use Rattle.rules.specs.PathStatement.{contourCount, segmentCount, IsContour, cutsOf}
+use Rattle.rules.specs.PathStatement.{contourCount, segmentsOf, segmentCount, IsContour, cutsOf}
 use Rattle.path.specs.Lists.{all-of, all-give, length-upFrom}
 use Rattle.path.specs.Sums.{sum-ones, sum-zeros, indicator, sum-absent, sum-once}
 use Rattle.path.specs.Contours.{Apart, others, others-apart, sum-others, contours-rise, sum-segments}
@@ -39,12 +39,12 @@ counted test segment jump w f e p t h =
 -- ---- S cuts, n − 1 jumps and touches
 
 pub retrace-cuts : (p : Plate) → AllTakePart p → 1 ≤ contourCount p → marksOf cutKind (marks (retrace p)) ≡ segmentCount p
-unfolding marksOf segmentCount contourCount share pick land cutUp cutDown backStep
+unfolding marksOf segmentsOf segmentCount contourCount share pick land cutUp cutDown backStep
 retrace-cuts p t h =
     let n = counted (λ kind r. eqb kind cutKind) (λ v. 1) 0
     (record { up = λ v. refl; down = λ v. refl; back = λ v k. refl; start = λ v. refl; landing = λ v. refl; touch = λ v. refl }) (λ c. c .last)
     (λ c. omega (arith, sum-ones (upFrom (c .first) (c .last)), length-upFrom (c .first) (c .last))) p t h in
-    omega (arith, n, sum-segments p)
+    omega (arith, n)
 
 -- a mark of one kind is not of another
 either : (a b kind : ℕ) → (a ≡ b → ⊥) → pick (eqb kind a || eqb kind b) 1 0 ≡ pick (eqb kind a) 1 0 + pick (eqb kind b) 1 0

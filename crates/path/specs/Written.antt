@@ -68,7 +68,7 @@ module _ (p : Plate) (path : List Float) (v : ℕ → ℕ) (n : ℕ) (has : (i :
   near-written : (kind r : ℕ) → Pair p v k kind r → NoneNearer (gridOf (p .box)) (at path) k kind
   near-written kind r (of, near) lands i l = rw (has i (omega arith), has k (omega arith), has (suc k) h) (near lands i l)
 
-  pair-written : (kind r : ℕ) → Pair p v k kind r → WrittenPair p path v k kind r
+  pub pair-written : (kind r : ℕ) → Pair p v k kind r → WrittenPair p path v k kind r
   pair-written kind r (inl (e, c), n) =
       inl (
         e,

@@ -10,7 +10,7 @@ use lib.ListN.{length}
 use Rattle.rules.specs.Tools.{sum}
 use Rattle.rules.specs.HandedOver.{Answer, gives, refuses, refusal, plateLimit, firstOff, firstBad, refuseIf, counted, layered, onPlate, checked}
 use Rattle.rules.specs.declared.Refusal.{Refusal}
-use Rattle.rules.specs.declared.Refusal.the-variants.{TooManyContours, TooManyPoints, Miscounted, OffThePlate, WorkShort, Full, Blank, BadLayer}
+use Rattle.rules.specs.declared.Refusal.the-variants.{TooManyContours, TooManyPoints, Miscounted, OffThePlate, WorkShort, Full, Blank, NotDrawn, BadLayer}
 use Rattle.path.specs.Accepted.{refuse-gives}
 
 abbrev number : {A : Type 0} → Answer A → ℕ
@@ -30,6 +30,7 @@ of-number A B (OffThePlate k) = refl
 of-number A B (WorkShort k) = refl
 of-number A B (Full k) = refl
 of-number A B Blank = refl
+of-number A B (NotDrawn k) = refl
 of-number A B (BadLayer k) = refl
 
 -- a refusal has its number and place in every call
@@ -46,6 +47,7 @@ not-given (OffThePlate k) a h = let z : _≡_ {A = ℕ} 0 1 = cc in omega arith
 not-given (WorkShort k) a h = let z : _≡_ {A = ℕ} 0 1 = cc in omega arith
 not-given (Full k) a h = let z : _≡_ {A = ℕ} 0 1 = cc in omega arith
 not-given Blank a h = let z : _≡_ {A = ℕ} 0 1 = cc in omega arith
+not-given (NotDrawn k) a h = let z : _≡_ {A = ℕ} 0 1 = cc in omega arith
 not-given (BadLayer k) a h = let z : _≡_ {A = ℕ} 0 1 = cc in omega arith
 
 -- ---- the checks

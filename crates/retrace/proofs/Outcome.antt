@@ -8,7 +8,7 @@ use lib.ListN.{length, take}
 use lib.Seq.{take-all, take-at}
 use borrow.Author.Tests.{lt-ltb, le-ltb}
 use Rattle.rules.specs.Tools.{pick, sum}
-use Rattle.rules.specs.HandedOver.{Plate, Answer, gives, refuses, refusal, refuseIf, checked, retraceWork, fitted, over, after, retraceRoom, WorkKept}
+use Rattle.rules.specs.HandedOver.{Plate, Answer, gives, refuses, refusal, refuseIf, checked, retraceWork, fitted, over, after, retraceRoom, freesWork, WorkKept}
 use Rattle.rules.specs.RetraceAndMarks.{cutKind, backStepKind, jumpKind, touchKind, Step, coordinates, marks, marksOf, retrace}
 use Rattle.rules.specs.Calls.{counts, vertices, retraceCall}
 use Rattle.rules.specs.declared.Counts.{Counts}
@@ -104,7 +104,7 @@ module _ (p : Plate) (path : List Float) (ms work : List ℕ) (ds : List Float) 
       module _ (enough-ds : length (p .lengths) ≤ length ds) (n : ℕ) (path′ : List Float) (ms′ work′ : List ℕ) (ds′ : List Float)
           (w : Wrote (p .points) (retrace p) c n path path′ ms ms′) where
         pub met-full : c < n → Met p path ms work ds (refuses 6 c) path′ ms′ work′ ds′
-        unfolding retraceCall retraceWork fitted refuseIf after pick WorkKept
+        unfolding retraceCall retraceWork fitted refuseIf after pick freesWork WorkKept
         met-full h =
             rw (
               passed _,

@@ -1,8 +1,8 @@
--- "What is handed over" of document 01, with the layers of document 02: points and contours, and the refusals with their order and their places. Definitions
--- only.
+-- "What is handed over" of document 01, with the layers of document 02: points and contours, and the refusals that calls share, with their order and their
+-- places. Definitions only.
 use mathlib.Core.Path.{_≡_}
 use Prim.Native.Nat.{ℕ, zero, suc, _+_, _*_, _/_, min}
-use mathlib.Core.Bool.{Bool, true, false, not, _&&_}
+use mathlib.Core.Bool.{Bool, true, false, not, _&&_, _||_}
 use mathlib.Core.List.{List, [], _∷_, _++_}
 use lib.Dec.{T, leb, ltb, eqb}
 use lib.ListN.{length, take, drop, getD}
@@ -15,7 +15,7 @@ use Rattle.rules.specs.declared.BoundingBox.{BoundingBox}
 use Rattle.rules.specs.declared.StartPointStrategy.{StartPointStrategy}
 use Rattle.rules.specs.declared.Counts.{Counts}
 use Rattle.rules.specs.declared.Refusal.{Refusal}
-use Rattle.rules.specs.declared.Refusal.the-variants.{TooManyContours, TooManyPoints, Miscounted, OffThePlate, WorkShort, Full, Blank, BadLayer}
+use Rattle.rules.specs.declared.Refusal.the-variants.{TooManyContours, TooManyPoints, Miscounted, OffThePlate, WorkShort, Full, Blank, NotDrawn, BadLayer}
 use Rattle.rules.specs.declared.DistanceAnswer.{DistanceAnswer}
 use Rattle.rules.specs.declared.DistanceAnswer.the-variants.{Distances, NoDistances}
 use Rattle.rules.specs.declared.StartAnswer.{StartAnswer}
@@ -26,6 +26,8 @@ use Rattle.rules.specs.declared.StraightAnswer.{StraightAnswer}
 use Rattle.rules.specs.declared.StraightAnswer.the-variants.{Points, NoStraight}
 use Rattle.rules.specs.declared.RetraceAnswer.{RetraceAnswer}
 use Rattle.rules.specs.declared.RetraceAnswer.the-variants.{Joined, NotJoined}
+use Rattle.rules.specs.declared.CheckAnswer.{CheckAnswer}
+use Rattle.rules.specs.declared.CheckAnswer.the-variants.{Accepted, NotAccepted}
 
 -- ---- points and contours
 
@@ -66,8 +68,11 @@ contoursFrom j v [] = []
 contoursFrom j v (zero ∷ ns) = contoursFrom (suc j) v ns
 contoursFrom j v (suc n ∷ ns) = record { number = j; first = v; last = n } ∷ contoursFrom (suc j) (v + suc n) ns
 
+abbrev pub contoursOf : List ℕ → List Contour
+contoursOf ns = contoursFrom 0 0 ns
+
 unfoldable pub contours : Plate → List Contour
-contours p = contoursFrom 0 0 (p .lengths)
+contours p = contoursOf (p .lengths)
 
 -- vertex i of a contour, counted from 0 within it
 unfoldable pub vertexAt : Plate → Contour → ℕ → Point
@@ -104,6 +109,7 @@ refusal (OffThePlate place) = refuses 4 place
 refusal (WorkShort place) = refuses 5 place
 refusal (Full place) = refuses 6 place
 refusal Blank = refuses 7 0
+refusal (NotDrawn place) = refuses 12 place
 refusal (BadLayer place) = refuses 13 place
 
 -- the paper's values for each case of an answer
@@ -126,6 +132,10 @@ straightAnswer (NoStraight r) = refusal r
 unfoldable pub retraceAnswer : RetraceAnswer → Answer Counts
 retraceAnswer (Joined c) = gives c
 retraceAnswer (NotJoined r) = refusal r
+
+unfoldable pub checkAnswer : CheckAnswer → Answer (Unit {0})
+checkAnswer Accepted = gives tt
+checkAnswer (NotAccepted r) = refusal r
 
 -- ---- conditions
 
@@ -205,7 +215,11 @@ unfoldable pub after : {A B : Type 0} → Answer A → ℕ → List B → List B
 after (gives a) c result slice = over result slice
 after (refuses number place) c result slice = pick (eqb number 6) (over (take (2 * c) result) slice) slice
 
--- A work slice: its content is free after a result and after refusal 6, and unaltered otherwise.
+-- the refusals after which a work slice's content is free
+unfoldable pub freesWork : ℕ → Bool
+freesWork number = eqb number 6 || eqb number 12
+
+-- A work slice: its content is free after a result and after such a refusal, and unaltered otherwise.
 unfoldable pub WorkKept : {A B : Type 0} → Answer A → List B → List B → Type 0
 WorkKept (gives a) before now = Unit {0}
-WorkKept (refuses number place) before now = T (not (eqb number 6)) → now ≡ before
+WorkKept (refuses number place) before now = T (not (freesWork number)) → now ≡ before

@@ -1,6 +1,7 @@
 pub mod Tools
 pub mod Box
 pub mod HandedOver
+pub mod Bits
 pub mod Distances
 pub mod Start
 pub mod GridAndNearest
@@ -10,7 +11,9 @@ pub mod OrderAndStraight
 pub mod Calls
 pub mod PathStatement
 pub mod HowNear
+pub mod PathCheck
 pub mod MarkedPlates
 pub mod UndividedPaths
+pub mod CheckedPaths
 pub mod FallingPaths
 pub mod NearLandings

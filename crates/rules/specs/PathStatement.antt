@@ -3,7 +3,7 @@
 use mathlib.Core.Path.{_≡_}
 use mathlib.Core.Logic.{_⊎_}
 use mathlib.Core.Bool.{Bool, true, false, not, _&&_}
-use mathlib.Core.List.{List, [], _∷_, _++_}
+use mathlib.Core.List.{List, [], _∷_, _++_, map}
 use Prim.Native.Nat.{ℕ, zero, suc, _+_, _-_, _*_, _≤_, _<_}
 use lib.Dec.{T, eqb}
 use lib.ListN.{length, getD, take, drop}
@@ -22,8 +22,11 @@ use Rattle.rules.specs.declared.SpatialGrid.{SpatialGrid}
 unfoldable pub contourCount : Plate → ℕ
 contourCount p = length (contours p)
 
+unfoldable pub segmentsOf : List Contour → ℕ
+segmentsOf cs = sum (map (λ c. c .last) cs)
+
 unfoldable pub segmentCount : Plate → ℕ
-segmentCount p = sum (p .lengths) - contourCount p
+segmentCount p = segmentsOf (contours p)
 
 -- c is one of a list of contours
 abbrev pub Among : Contour → List Contour → Type 0
@@ -34,12 +37,15 @@ Among c (d ∷ ds) = (d ≡ c) ⊎ Among c ds
 abbrev pub IsContour : Plate → Contour → Type 0
 IsContour p c = Among c (contours p)
 
--- vertex v is one of c's, is one of some contour's, and is none of c's
+-- vertex v is one of c's, is one of some contour's, of a list and of a plate, and is none of c's
 abbrev pub Of : Contour → ℕ → Type 0
 Of c v = (c .first ≤ v) × (v ≤ c .first + c .last)
 
+abbrev pub OfOne : List Contour → ℕ → Type 0
+OfOne cs v = (c : Contour) × Among c cs × Of c v
+
 unfoldable pub OfContour : Plate → ℕ → Type 0
-OfContour p v = (c : Contour) × IsContour p c × Of c v
+OfContour p v = OfOne (contours p) v
 
 abbrev pub NotOf : Contour → ℕ → Type 0
 NotOf c v = (v < c .first) ⊎ (c .first + c .last < v)

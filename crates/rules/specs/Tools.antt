@@ -1,6 +1,6 @@
 -- Choice, lists of numbers, folds and winners: what the other files are written with. Definitions only.
 use Prim.Native.Nat.{ℕ, zero, suc, _+_, min}
-use mathlib.Core.Bool.{Bool, true, false}
+use mathlib.Core.Bool.{Bool, true, false, _&&_, _||_}
 use mathlib.Core.List.{List, [], _∷_, map}
 use mathlib.Core.Option.{Option, none, some}
 use lib.Dec.{leb, eqb}
@@ -28,6 +28,20 @@ downTo a (suc n) = (a + n) ∷ downTo a n
 unfoldable pub sum : List ℕ → ℕ
 sum [] = 0
 sum (x ∷ xs) = x + sum xs
+
+-- one of a list passes the test; all do
+unfoldable pub any : {A : Type 0} → (A → Bool) → List A → Bool
+any test [] = false
+any test (x ∷ xs) = test x || any test xs
+
+unfoldable pub every : {A : Type 0} → (A → Bool) → List A → Bool
+every test [] = true
+every test (x ∷ xs) = test x && every test xs
+
+-- the first of the n numbers from i on that fails the test, or the number after them
+unfoldable pub firstFailing : (ℕ → Bool) → ℕ → ℕ → ℕ
+firstFailing test i zero = i
+firstFailing test i (suc n) = let rest = firstFailing test (suc i) n in pick (test i) rest i
 
 -- those of a list that do not have the number n
 unfoldable pub without : {A : Type 0} → (A → ℕ) → ℕ → List A → List A

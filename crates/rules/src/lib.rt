@@ -47,6 +47,7 @@ pub enum Refusal {
     WorkShort(u32),
     Full(u32),
     Blank,
+    NotDrawn(u64),
     BadLayer(u32),
 }
 
@@ -100,4 +101,9 @@ pub struct Counts {
 pub enum RetraceAnswer {
     Joined(Counts),
     NotJoined(Refusal),
+}
+
+pub enum CheckAnswer {
+    Accepted,
+    NotAccepted(Refusal),
 }

@@ -11,7 +11,7 @@ use lib.ListN.{length, take}
 use lib.Seq.{take-all}
 use borrow.Author.Tests.{lt-ltb, le-ltb}
 use Rattle.rules.specs.Tools.{pick, sum}
-use Rattle.rules.specs.HandedOver.{Plate, Answer, gives, refuses, refusal, plateLimit, firstOff, firstBad, refuseIf, counted, layered, onPlate, checked, orderWork, fitted, over, after, WorkKept}
+use Rattle.rules.specs.HandedOver.{Plate, Answer, gives, refuses, refusal, plateLimit, firstOff, firstBad, refuseIf, counted, layered, onPlate, checked, orderWork, fitted, over, after, freesWork, WorkKept}
 use Rattle.rules.specs.declared.Refusal.{Refusal}
 use Rattle.plate.specs.Refused.{not-given, checked-refuses, checked-passes}
 
@@ -67,7 +67,7 @@ module _ {B : Type 0} (p : Plate) (w c n : ℕ) (result slice : List B) (work : 
     module _ (enough : length (p .lengths) ≤ w) (room count : ℕ) (room-is : room ≡ c) (count-is : count ≡ n) (now : List B)
         (written : now ≡ over (take (2 * room) result) slice) (worked : List ℕ) where
       pub met-full : room < count → Met (outcome p w c n) c result slice (refuses 6 room) now work worked
-      unfolding orderWork fitted refuseIf after pick WorkKept
+      unfolding orderWork fitted refuseIf after pick freesWork WorkKept
       met-full h =
           let e : c < n = omega arith in
           rw (passed, le-ltb w (length (p .lengths)) enough, lt-ltb c n e, ← room-is) (refl, written, λ t. absurd t)

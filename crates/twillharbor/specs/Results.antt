@@ -15,6 +15,7 @@ use Rattle.twillharbor.specs.declared.StartResult.{StartResult}
 use Rattle.twillharbor.specs.declared.OrderResult.{OrderResult}
 use Rattle.twillharbor.specs.declared.StraightResult.{StraightResult}
 use Rattle.twillharbor.specs.declared.RetraceResult.{RetraceResult}
+use Rattle.twillharbor.specs.declared.CheckResult.{CheckResult}
 
 unfoldable pub pointOf : Float → Float → Point
 pointOf x y = record { x = x; y = y }
@@ -50,3 +51,7 @@ countsOf r = record { points = r .points; cuts = r .cuts; «back_steps» = r .«
 -- how many path points were written: all of a result's, and before refusal 6 its place, C
 unfoldable pub writtenOf : RetraceResult → ℕ
 writtenOf r = pick (eqb (r .number) 6) (r .place) (r .points)
+
+unfoldable pub checkResult : Answer (Unit {0}) → CheckResult
+checkResult (gives t) = record { number = 0; place = 0 }
+checkResult (refuses n k) = record { number = n; place = k }

@@ -1,15 +1,19 @@
 // The C interface. A result's number is 0; a refusal has its number and its place, and 0 in every other field.
 ghost use mathlib.Core.Path.{_≡_};
-ghost use Prim.Native.Nat.{ℕ, _*_, _≤_};
+ghost use Prim.Native.Nat.{ℕ, _*_, _/_, _≤_};
 ghost use lib.ListN.{length, take};
-ghost use Rattle.rules.specs.HandedOver.{plate, refuses, refusal, WorkKept};
+ghost use Rattle.rules.specs.HandedOver.{plate, contoursOf, refuses, refusal, WorkKept};
 ghost use Rattle.rules.specs.PathStatement.{contourCount, Divides, NeverFall};
 ghost use Rattle.rules.specs.HowNear.{LandingsNear};
+ghost use Rattle.rules.specs.PathCheck.{DividesByPoints, FirstFault, checkCall};
 ghost use Rattle.rules.specs.Calls.{distanceCall, startCall, orderCall, straightCall, retraceCall};
-ghost use Rattle.twillharbor.specs.Results.{pointOf, strategyOf, distanceResult, startResult, orderResult, straightResult, retraceResult, countsOf, writtenOf};
+ghost use Rattle.twillharbor.specs.Results.{pointOf, strategyOf, distanceResult, startResult, orderResult, straightResult, retraceResult, countsOf, writtenOf, checkResult};
+ghost use Rattle.twillharbor.specs.Refusals.{PlaceOf32};
 use order::order_call;
+use path_check::check_path;
 use point::distance_call;
 use retrace::retrace_call;
+use rules::CheckAnswer;
 use rules::DistanceAnswer;
 use rules::OrderAnswer;
 use rules::Point;
@@ -21,13 +25,14 @@ use rules::StraightAnswer;
 use start::start_call;
 use straight::straight_call;
 
-// The paper's number and place of a refusal.
+// The paper's number and place of a refusal; 12 has a place of 64 bits, and is none of these.
 struct RefusalNumbers {
     number: u32,
     place: u32,
 }
 
 fn numbers_of(r: Refusal) -> RefusalNumbers
+    requires { ⌜ PlaceOf32 r ⌝ }
     ensures { λ n. ⌜ refusal {A = ℕ} r ≡ refuses (n .number) (n .place) ⌝ }
 {
     match r {
@@ -48,6 +53,10 @@ fn numbers_of(r: Refusal) -> RefusalNumbers
         Refusal::Full(place) => RefusalNumbers { number: 6, place },
         Refusal::Blank => RefusalNumbers {
             number: 7,
+            place: 0,
+        },
+        Refusal::NotDrawn(_) => RefusalNumbers {
+            number: 12,
             place: 0,
         },
         Refusal::BadLayer(place) => RefusalNumbers { number: 13, place },
@@ -299,5 +308,52 @@ pub extern "C" fn twillharbor_retrace(
                 touches: 0,
             }
         }
+    }
+}
+
+#[repr(C)]
+pub struct CheckResult {
+    pub number: u32,
+    pub place: u64,
+}
+
+fn refused_check(r: Refusal) -> CheckResult
+    ensures { λ n. ⌜ n ≡ checkResult (refusal r) ⌝ }
+{
+    if let Refusal::NotDrawn(place) = r {
+        return CheckResult { number: 12, place };
+    }
+    let n = numbers_of(r);
+    CheckResult {
+        number: n.number,
+        place: n.place as u64,
+    }
+}
+
+// Where the number is 0, the marks divide the path (rules/specs/PathCheck.antt); where it is 12, the place is the first fault.
+#[no_mangle]
+pub extern "C" fn twillharbor_check_path(
+    points: &[f64],
+    lengths: &[u32],
+    path: &[f64],
+    marks: &[u32],
+    work: &mut [u32],
+) -> CheckResult
+    ensures { λ r. ⌜
+        (let xs = now (points .entry) in
+        let cs = contoursOf (now (lengths .entry)) in
+        let n = length (now (path .entry)) / 2 in
+        let a = checkCall xs (now (lengths .entry)) (now (path .entry)) (now (marks .entry)) (length (now (work .entry))) in
+        (r ≡ checkResult a) × WorkKept a (now (work .entry)) (now (work .exit))
+        × (r .number ≡ 0 → DividesByPoints cs xs n (now (path .entry)) (now (marks .entry)))
+        × (r .number ≡ 12 → FirstFault cs xs n (now (path .entry)) (now (marks .entry)) (r .place))) ⌝ }
+{
+    let answer = check_path(points, lengths, path, marks, work);
+    match answer {
+        CheckAnswer::Accepted => CheckResult {
+            number: 0,
+            place: 0,
+        },
+        CheckAnswer::NotAccepted(r) => refused_check(r),
     }
 }

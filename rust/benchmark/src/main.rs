@@ -5,6 +5,7 @@
 //! Independent calls overlap in the processor, as in a search over many points; of chained
 //! calls each waits for the answer of the one before.
 
+mod check_path;
 mod plates;
 mod retrace;
 
@@ -71,6 +72,7 @@ fn main() {
 
     plates::report();
     retrace::report();
+    check_path::report();
 }
 
 /// Nanoseconds a call.

@@ -5,6 +5,7 @@ use std::fmt;
 use mujou_reference::types as reference;
 use twillharbor::{Point, distance};
 
+use crate::handed::numbers;
 use crate::pairs::{DAMAGES, KINDS, Pair, damaged, pair};
 use crate::run::{self, Plan};
 
@@ -52,7 +53,10 @@ fn compare(pair: Pair) -> Result<(), String> {
 fn answer([ax, ay, bx, by]: Pair) -> Answer {
     match distance(Point { x: ax, y: ay }, Point { x: bx, y: by }) {
         Ok(apart) => Answer::Apart(apart.squared.to_bits(), apart.plain.to_bits()),
-        Err(refusal) => Answer::Refused(refusal.number(), refusal.place()),
+        Err(refusal) => {
+            let (number, place) = numbers(refusal);
+            Answer::Refused(number, place)
+        }
     }
 }
 

@@ -3,7 +3,7 @@
 use std::fmt::Debug;
 
 use harness::random::Random;
-use twillharbor::StartPointStrategy;
+use twillharbor::{Refusal, StartPointStrategy};
 
 use crate::lent::{Difference, Lent};
 use crate::plates::Plate;
@@ -77,6 +77,12 @@ impl<'a, Due, Tally> Handed<'a, Due, Tally> {
     pub fn described(&self, text: &str) -> String {
         described(self.plate, self.strategy, text)
     }
+}
+
+/// Number and place of a refusal by a call whose places are u32.
+pub fn numbers(refusal: Refusal) -> Refused {
+    let place = refusal.place().try_into().expect("a call's place is of its type");
+    (refusal.number(), place)
 }
 
 /// The text, with the plate, the whole of it where that is a few lines.

@@ -9,9 +9,9 @@ use std::sync::atomic::{AtomicU64, Ordering};
 
 use harness::random::Random;
 use twillharbor::StartPointStrategy::{self, Inside, Outside};
-use twillharbor::{Refusal, c};
+use twillharbor::c;
 
-use crate::handed::Handed;
+use crate::handed::{Handed, numbers};
 use crate::layers::{Met, in_seeded_layers};
 use crate::lent::{Lent, Number};
 use crate::plates::{KINDS, Kind, Plate, damaged_somehow, plate};
@@ -279,18 +279,17 @@ impl Case<'_> {
     }
 
     fn wrapped(&self, plate: twillharbor::Plate) -> Result<(), String> {
-        let refused = |refusal: Refusal| (refusal.number(), refusal.place());
         let (size, strategy) = (self.plate.size, self.strategy);
         let due = self.due.as_ref().map_err(|&refused| refused);
 
         let start = plate.start(size, strategy).map(|start| [start.contour, start.reversed.into()]);
-        self.same("start", "safe interface", &start.map_err(refused), &self.start_due())?;
+        self.same("start", "safe interface", &start.map_err(numbers), &self.start_due())?;
 
         let order = plate.order(size, strategy).map(|order| {
             order.iter().map(|entry| [entry.contour, entry.reversed.into()]).collect::<Vec<_>>()
         });
         let order_due = due.map(|results| results.order.clone());
-        self.same("order", "safe interface", &order.map_err(refused), &order_due)?;
+        self.same("order", "safe interface", &order.map_err(numbers), &order_due)?;
 
         let straight = plate
             .straight(size, strategy)
@@ -298,7 +297,7 @@ impl Case<'_> {
         let straight_due = due.map(|results| {
             results.straight.iter().map(|p| p.map(f64::to_bits)).collect::<Vec<_>>()
         });
-        self.same("straight", "safe interface", &straight.map_err(refused), &straight_due)?;
+        self.same("straight", "safe interface", &straight.map_err(numbers), &straight_due)?;
         self.inputs_kept("safe interface")
     }
 }

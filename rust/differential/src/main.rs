@@ -7,6 +7,7 @@ mod caches;
 mod centers;
 mod checker;
 mod distances;
+mod drawn;
 mod floats;
 mod grids;
 mod handed;
@@ -17,8 +18,10 @@ mod lent;
 mod meeting;
 mod mujou;
 mod near;
+mod other_paths;
 mod pairs;
 mod passed_over;
+mod paths;
 mod plates;
 mod record;
 mod reference;
@@ -47,9 +50,12 @@ usage: differential distances --pairs N --seed S [--threads T]
        differential plate --kind K --seed S
        differential retrace --plates N --seed S [--threads T]
        differential retrace-plate --kind K --seed S
+       differential paths --plates N --seed S [--threads T]
+       differential paths-plate --kind K --seed S
        differential record-distances --out FILE
        differential record-plates --out FILE
-       differential record-retrace --out FILE";
+       differential record-retrace --out FILE
+       differential record-paths --out FILE";
 
 fn main() -> ExitCode {
     let words: Vec<String> = env::args().skip(1).collect();
@@ -82,9 +88,15 @@ fn command(words: &[String]) -> Result<bool, String> {
             let [kind, seed] = options(rest, ["--kind", "--seed"])?;
             retracing::run_one(number("--kind", kind)?, number("--seed", seed)?)
         }
+        "paths" => Ok(paths::run(plan(rest, "--plates")?)),
+        "paths-plate" => {
+            let [kind, seed] = options(rest, ["--kind", "--seed"])?;
+            paths::run_one(number("--kind", kind)?, number("--seed", seed)?)
+        }
         "record-distances" => record(rest, record::distances),
         "record-plates" => record(rest, record::plates),
         "record-retrace" => record(rest, record::retrace::retraces),
+        "record-paths" => record(rest, record::paths::paths),
         _ => Err(format!("no command {name}")),
     }
 }

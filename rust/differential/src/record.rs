@@ -23,9 +23,10 @@
 //! A plate has at most 40 coordinates, 12 contours and 16 layers, and each slice at most 64
 //! elements.
 //!
-//! The rows of the retrace call are described in `retrace`.
+//! The rows of the retrace call are described in `retrace`, those of the check of a path in `paths`.
 
 mod in_layers;
+pub mod paths;
 pub mod retrace;
 mod touching;
 

@@ -3,8 +3,8 @@
 //! Every call is lent slices between margins of random bits, and all bits are compared
 //! afterwards: of the answer, of inputs and outputs, and of both work slices after every
 //! refusal but 6. The marks are compared with those of the documents as transcribed in `rule`,
-//! the checker looks at every result, and how near its landings are is checked of every path that
-//! is written, whole or cut off.
+//! the checker looks at every result, the check call accepts it, and how near its landings are is
+//! checked of every path that is written, whole or cut off.
 
 use std::sync::atomic::{AtomicU64, Ordering};
 
@@ -13,7 +13,7 @@ use twillharbor::StartPointStrategy::{self, Inside, Outside};
 use twillharbor::{MarkedPath, PairKind, c};
 
 use crate::checker::{self, Claim, Counts};
-use crate::handed::Handed;
+use crate::handed::{Handed, numbers};
 use crate::layers::{Met, in_seeded_layers};
 use crate::lent::Lent;
 use crate::near::HowNear;
@@ -338,8 +338,19 @@ impl Case<'_> {
             return Ok(());
         };
         let counts = Counts { points, cuts, back_steps, jumps, touches };
-        self.checked(lent.path.slice(), lent.marks.slice(), counts)
-            .map_err(|broken| self.described(&format!("{name}: {broken}")))
+        let (path, marks) = (lent.path.slice(), lent.marks.slice());
+        self.checked(path, marks, counts)
+            .map_err(|broken| self.described(&format!("{name}: {broken}")))?;
+        self.accepted(&name, &path[..2 * points as usize], &marks[..2 * points as usize])
+    }
+
+    /// The check call takes each path that is finished.
+    fn accepted(&self, name: &str, path: &[f64], marks: &[u32]) -> Result<(), String> {
+        let (points, lengths) = (self.points.slice(), self.lengths.slice());
+        let mut work = vec![u32::MAX; points.len() / 2 + lengths.len()];
+        let is = c::check_path(points, lengths, path, marks, &mut work);
+        self.same("the check call's number and place", name, &(is.number, is.place), &(0, 0))?;
+        self.inputs_kept(name)
     }
 
     /// The library's answer.
@@ -424,7 +435,7 @@ impl Case<'_> {
     fn wrapped(&self, plate: twillharbor::Plate) -> Result<(), String> {
         const NAME: &str = "safe interface";
         let outcome = plate.retrace(self.plate.size, self.strategy);
-        let refused = outcome.as_ref().err().map(|refusal| (refusal.number(), refusal.place()));
+        let refused = outcome.as_ref().err().map(|&refusal| numbers(refusal));
         let due = match &self.due {
             Ok(due) if due.whole => None,
             Ok(due) => Some((6, due.marks.len() as u32)),

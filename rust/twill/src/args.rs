@@ -1,6 +1,7 @@
 //! The command line.
 
 use crate::number;
+use crate::words::count;
 use std::path::PathBuf;
 use twillharbor::{HIGHEST_LAYER, Point, StartPointStrategy};
 
@@ -19,6 +20,8 @@ pub enum Request {
 pub struct PlateRequest {
     pub command: Command,
     pub source: Source,
+    /// The path that is verified.
+    pub path: Option<Source>,
     pub width: Option<u32>,
     pub height: Option<u32>,
     pub strategy: Option<StartPointStrategy>,
@@ -26,6 +29,8 @@ pub struct PlateRequest {
     pub layer: Option<u32>,
     pub format: Format,
     pub output: Option<PathBuf>,
+    /// The path point at which the page opens.
+    pub at: Option<u32>,
 }
 
 #[derive(Debug, Clone, Copy, PartialEq, Eq)]
@@ -35,6 +40,7 @@ pub enum Command {
     Order,
     Start,
     Check,
+    Verify,
     Step,
     View,
 }
@@ -43,6 +49,15 @@ impl Command {
     /// Whether it writes a result, in one of the formats.
     const fn has_formats(self) -> bool {
         matches!(self, Self::Retrace | Self::Straight | Self::Order | Self::Start)
+    }
+
+    /// Whether size and strategy make a difference.
+    const fn has_terms(self) -> bool {
+        !matches!(self, Self::Verify)
+    }
+
+    const fn has_output(self) -> bool {
+        self.has_formats() || matches!(self, Self::View | Self::Verify)
     }
 }
 
@@ -61,12 +76,13 @@ pub enum Format {
     PlateMarks,
 }
 
-const PLATE_COMMANDS: [(&str, Command); 7] = [
+const PLATE_COMMANDS: [(&str, Command); 8] = [
     ("retrace", Command::Retrace),
     ("straight", Command::Straight),
     ("order", Command::Order),
     ("start", Command::Start),
     ("check", Command::Check),
+    ("verify", Command::Verify),
     ("step", Command::Step),
     ("view", Command::View),
 ];
@@ -132,23 +148,47 @@ fn plate(name: &str, command: Command, words: &[String]) -> Result<PlateRequest,
             options.read(name, command, word, &mut words)?;
         }
     }
-    let source = match files[..] {
-        [] => return Err(format!("{name} takes a FILE (`-` is the standard input)")),
-        [""] => return Err(format!("{name} takes a FILE, and its name is empty")),
-        ["-"] => Source::StandardInput,
-        [file] => Source::File(file.into()),
-        [_, second, ..] => return Err(format!("{name} takes one FILE; `{second}` is a second")),
+    let (source, path) = match command {
+        Command::Verify => verified(name, &files)?,
+        _ => (one_file(name, &files)?, None),
     };
     Ok(PlateRequest {
         command,
         source,
+        path,
         width: options.width,
         height: options.height,
         strategy: options.strategy,
         layer: options.layer,
         format: options.format.unwrap_or_default(),
         output: options.output,
+        at: options.at,
     })
+}
+
+fn one_file(name: &str, files: &[&str]) -> Result<Source, String> {
+    match *files {
+        [] => Err(format!("{name} takes a FILE (`-` is the standard input)")),
+        [file] => source(name, file),
+        [_, second, ..] => Err(format!("{name} takes one FILE; `{second}` is a second")),
+    }
+}
+
+/// The picture and the path.
+fn verified(name: &str, files: &[&str]) -> Result<(Source, Option<Source>), String> {
+    match *files {
+        ["-", "-"] => Err(format!("{name}: one of PICTURE and PATH alone is the standard input")),
+        [picture, path] => Ok((source(name, picture)?, Some(source(name, path)?))),
+        _ => Err(format!("{name} takes a PICTURE and a PATH, not {}", count(files.len(), "file"))),
+    }
+}
+
+fn source(name: &str, file: &str) -> Result<Source, String> {
+    match file {
+        "" => Err(format!("{name} takes a FILE, and its name is empty")),
+        "-" => Ok(Source::StandardInput),
+        file => Ok(Source::File(file.into())),
+    }
 }
 
 #[derive(Default)]
@@ -159,6 +199,7 @@ struct Options {
     layer: Option<u32>,
     format: Option<Format>,
     output: Option<PathBuf>,
+    at: Option<u32>,
 }
 
 impl Options {
@@ -174,14 +215,16 @@ impl Options {
             Some((option, value)) if word.starts_with("--") => (option, Some(value)),
             _ => (word, None),
         };
-        let has_formats = command.has_formats();
+        let has_terms = command.has_terms();
         let is_twice = match option {
-            "--inside" | "--outside" if attached.is_some() => {
+            "--inside" | "--outside" if has_terms && attached.is_some() => {
                 return Err(format!("{option} takes no value"));
             }
-            "--inside" => self.strategy.replace(StartPointStrategy::Inside).is_some(),
-            "--outside" => self.strategy.replace(StartPointStrategy::Outside).is_some(),
-            "--width" | "--height" => {
+            "--inside" if has_terms => self.strategy.replace(StartPointStrategy::Inside).is_some(),
+            "--outside" if has_terms => {
+                self.strategy.replace(StartPointStrategy::Outside).is_some()
+            }
+            "--width" | "--height" if has_terms => {
                 let size = whole(option, value(option, attached, rest)?, u32::MAX)?;
                 let side = if option == "--width" { &mut self.width } else { &mut self.height };
                 side.replace(size).is_some()
@@ -190,10 +233,14 @@ impl Options {
                 let layer = whole(option, value(option, attached, rest)?, HIGHEST_LAYER)?;
                 self.layer.replace(layer).is_some()
             }
-            "--format" if has_formats => {
+            "--at" if command == Command::View => {
+                let at = whole(option, value(option, attached, rest)?, u32::MAX)?;
+                self.at.replace(at).is_some()
+            }
+            "--format" if command.has_formats() => {
                 self.format.replace(format(value(option, attached, rest)?)?).is_some()
             }
-            "-o" | "--output" if has_formats || command == Command::View => {
+            "-o" | "--output" if command.has_output() => {
                 self.output.replace(value(option, attached, rest)?.into()).is_some()
             }
             _ => return Err(format!("{name} has no option {option}: see `twill help {name}`")),
@@ -245,12 +292,14 @@ mod tests {
         let expected = PlateRequest {
             command: Command::Retrace,
             source: Source::File("a.svg".into()),
+            path: None,
             width: Some(8),
             height: Some(2),
             strategy: Some(StartPointStrategy::Inside),
             layer: Some(15),
             format: Format::PlateMarks,
             output: Some("out".into()),
+            at: None,
         };
         for line in [
             "retrace a.svg --width 8 --height 2 --inside --layer 15 --format plate-marks -o out",
@@ -260,6 +309,23 @@ mod tests {
         }
         let Ok(Request::Plate(request)) = parsed("step -") else { panic!("not read") };
         assert_eq!((request.command, request.source), (Command::Step, Source::StandardInput));
+        let Ok(Request::Plate(request)) = parsed("view a --at 12") else { panic!("not read") };
+        assert_eq!((request.command, request.at), (Command::View, Some(12)));
+    }
+
+    #[test]
+    fn a_path_is_verified_against_a_picture() {
+        let file = |name: &str| Source::File(name.into());
+        for (line, source, path) in [
+            ("verify a.svg b.txt --layer 2 -o p", file("a.svg"), file("b.txt")),
+            ("verify --layer=2 --output=p -- a.svg -", file("a.svg"), Source::StandardInput),
+            ("verify - --layer 2 b.txt -o p", Source::StandardInput, file("b.txt")),
+        ] {
+            let Ok(Request::Plate(request)) = parsed(line) else { panic!("{line}") };
+            assert_eq!((request.command, request.layer), (Command::Verify, Some(2)));
+            assert_eq!((request.source, request.path), (source, Some(path)));
+            assert_eq!(request.output, Some("p".into()));
+        }
     }
 
     #[test]
@@ -287,6 +353,13 @@ mod tests {
             ("retrace a --with 3", "retrace has no option --with: see `twill help retrace`"),
             ("step a --format json", "step has no option --format: see `twill help step`"),
             ("check a -o b", "check has no option -o: see `twill help check`"),
+            ("check a --at 1", "check has no option --at: see `twill help check`"),
+            ("view a --at x", "--at takes a whole number from 0 to 4294967295, not `x`"),
+            ("verify a", "verify takes a PICTURE and a PATH, not 1 file"),
+            ("verify a b c", "verify takes a PICTURE and a PATH, not 3 files"),
+            ("verify - -", "verify: one of PICTURE and PATH alone is the standard input"),
+            ("verify a b --inside", "verify has no option --inside: see `twill help verify`"),
+            ("verify a b --width 3", "verify has no option --width: see `twill help verify`"),
             ("order a --width", "--width takes a value"),
             ("order a --width 1.5", "--width takes a whole number from 0 to 4294967295, not `1.5`"),
             ("order a --width +1", "--width takes a whole number from 0 to 4294967295, not `+1`"),

@@ -9,6 +9,8 @@ pub fn text(command: Option<&str>) -> String {
         Some("order") => include_str!("help/order.txt"),
         Some("start") => include_str!("help/start.txt"),
         Some("check") => include_str!("help/check.txt"),
+        // It has none of the plate options but one.
+        Some("verify") => return include_str!("help/verify.txt").into(),
         Some("step") => include_str!("help/step.txt"),
         Some("view") => include_str!("help/view.txt"),
         Some(_) => return include_str!("help/distance.txt").into(),

@@ -2,7 +2,7 @@
 
 use crate::plate::Handed;
 use crate::words;
-use twillharbor::{Mark, MarkedPath, Pair, PairKind};
+use twillharbor::{Mark, MarkedPath, Pair, PairKind, Point};
 
 /// What was handed over and what the library gave. Pair i goes from path point i − 1 to path
 /// point i, so pairs are numbered from 1.
@@ -15,6 +15,9 @@ pub struct Joined {
     /// The vertex of each path point: a start's, jump's or touch's is the one named, a cut's the
     /// end of its segment that the point before does not have, a back-step's that of path point k.
     visited: Vec<u32>,
+    /// Whether a cut leaves a vertex that only has the coordinates of its segment's end, as one of a
+    /// path from elsewhere may.
+    pub leaves_another: bool,
     /// For each pair the cut, jump or touch that it is, or that it goes back over.
     grooves: Vec<usize>,
     /// For each vertex of the plate the contour that it is of and its number within it.
@@ -41,11 +44,16 @@ impl Joined {
     pub fn new(plate: Handed, path: MarkedPath) -> Self {
         let vertices = plate.vertices().collect();
         let mut visited: Vec<u32> = Vec::with_capacity(path.marks().len());
-        for mark in path.marks() {
+        let mut leaves_another = false;
+        for (point, mark) in path.points().iter().zip(path.marks()) {
             visited.push(match *mark {
                 Mark::Start { vertex } | Mark::Jump { vertex } | Mark::Touch { vertex } => vertex,
                 Mark::Cut { segment } if visited.last() == Some(&segment) => segment + 1,
-                Mark::Cut { segment } => segment,
+                Mark::Cut { segment } if visited.last() == Some(&(segment + 1)) => segment,
+                Mark::Cut { segment } => {
+                    leaves_another = true;
+                    segment + u32::from(is_vertex(&plate, segment + 1, point))
+                }
                 Mark::BackStep { reversed } => visited[reversed as usize],
             });
         }
@@ -57,7 +65,8 @@ impl Joined {
                 PairKind::Cut { .. } | PairKind::Jump { .. } | PairKind::Touch { .. } => before + 1,
             });
         }
-        Self { is_layered: plate.is_layered(), plate, path, pairs, visited, grooves, vertices }
+        let is_layered = plate.is_layered();
+        Self { plate, is_layered, path, pairs, visited, leaves_another, grooves, vertices }
     }
 
     /// How many pairs there are; their numbers are from 1 to this.
@@ -113,4 +122,11 @@ impl Joined {
             groove: self.groove(number),
         }
     }
+}
+
+/// Whether a point has the bits of a vertex.
+fn is_vertex(plate: &Handed, vertex: u32, point: &Point) -> bool {
+    let place = 2 * vertex as usize;
+    let bits = |coordinates: &[f64]| coordinates.iter().map(|c| c.to_bits()).collect::<Vec<_>>();
+    bits(&plate.points[place..place + 2]) == bits(&[point.x, point.y])
 }

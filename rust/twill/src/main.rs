@@ -14,6 +14,7 @@ mod refused;
 mod run;
 mod step;
 mod tell;
+mod verify;
 mod view;
 mod words;
 mod write;

@@ -1,11 +1,14 @@
 //! Files as plates.
 
+mod drawing;
 mod json;
 mod svg;
 mod text;
 mod xml;
 
 use crate::plate::{Plate, Remark};
+
+pub use drawing::Drawing;
 
 /// Reads a plate. The form is told from the first character that is not blank: `<` begins an
 /// SVG picture, `[` or `{` JSON, and anything else the plain text form.
@@ -17,6 +20,16 @@ pub fn read(text: &str) -> Result<Plate, Remark> {
         Some('<') => svg::read(text),
         Some('[' | '{') => json::read(text),
         _ => text::read(text),
+    }
+}
+
+/// Reads a path with its marks, as `retrace` writes it: `{` begins JSON, and anything else is the
+/// text form.
+pub fn read_path(text: &str) -> Result<Drawing, Remark> {
+    match text.trim_start_matches('\u{FEFF}').trim_start().chars().next() {
+        None => Err(Remark::new(0, "the file is empty")),
+        Some('{') => json::read_path(text),
+        _ => drawing::read(text),
     }
 }
 

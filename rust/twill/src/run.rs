@@ -5,13 +5,14 @@ use crate::failure::Failure;
 use crate::joined::Joined;
 use crate::number::show;
 use crate::plate::{Handed, Plate, Position, Remark, file_name};
+use crate::read::Drawing;
 use crate::refused::{Loaded, distance_refused, refused};
-use crate::{help, output, read, step, view, words, write};
+use crate::{help, output, read, step, verify, view, words, write};
 use std::collections::BTreeSet;
 use std::io::Read;
 use std::path::{Path, PathBuf};
 use std::{fs, io};
-use twillharbor::{Point, Refusal, Size};
+use twillharbor::{MarkedPath, Point, Refusal, Size};
 
 pub fn run(request: &Request) -> Result<(), Failure> {
     match request {
@@ -30,11 +31,14 @@ fn distance(a: Point, b: Point) -> Result<(), Failure> {
 }
 
 fn plate(request: &PlateRequest) -> Result<(), Failure> {
-    let read = match &request.source {
-        Source::StandardInput => Path::new("/dev/stdin"),
-        Source::File(path) => path,
+    let read = |source: &Source, to: &Path| match source {
+        Source::StandardInput => output::is_same(to, Path::new("/dev/stdin")),
+        Source::File(path) => output::is_same(to, path),
     };
-    if let Some(to) = request.output.as_deref().filter(|to| output::is_same(to, read)) {
+    let mut sources = [Some(&request.source), request.path.as_ref()].into_iter().flatten();
+    if let Some(to) = &request.output
+        && sources.any(|source| read(source, to))
+    {
         let line = format!("{}: the result would replace the file that is read", file_name(to));
         return Err(Failure::usage(line));
     }
@@ -58,6 +62,7 @@ fn plate(request: &PlateRequest) -> Result<(), Failure> {
             write::start(&loaded.plate, start, request.format)
         }
         Command::Check => return check(&loaded),
+        Command::Verify => return verify(request, &loaded),
         Command::Step => {
             return step::step(&retrace(&loaded)?, &loaded.name)
                 .map_err(|fault| Failure::file(format!("step: {}", output::reason(&fault))));
@@ -185,25 +190,81 @@ fn check(loaded: &Loaded) -> Result<(), Failure> {
     output::print(&lines)
 }
 
+/// The answer goes to the standard output, a refusal too. With `-o` a page shows the path, or as much
+/// of it as keeps the rules, and opens there.
+fn verify(request: &PlateRequest, loaded: &Loaded) -> Result<(), Failure> {
+    let source = request.path.as_ref().expect("the command line names a path");
+    let (name, text) = text(source)?;
+    let drawing = read::read_path(&text).map_err(|Remark { byte, message }| {
+        Failure::file(format!("{name}:{}: {message}", Position::of(&text, byte)))
+    })?;
+    let Drawing { path, marks, bytes } = &drawing;
+    let Handed { points, lengths, .. } = &loaded.plate;
+    let sound = |points: usize| MarkedPath::of(&path[..2 * points], &marks[..2 * points]);
+    let (lines, shown, at) = match twillharbor::check_path(points, lengths, path, marks) {
+        Ok(()) => {
+            let drawn = sound(bytes.len()).expect("the library has accepted its marks");
+            let counts = words::counts(drawn.counts());
+            let line = format!("{name}: accepted: it draws {}\npath: {counts}\n", loaded.name);
+            (line, Some(drawn), None)
+        }
+        Err(refusal @ Refusal::NotDrawn { place }) => {
+            let place = place as usize;
+            let position = match bytes.get(place) {
+                Some(&byte) => format!(":{}", Position::of(&text, byte)),
+                None => String::new(),
+            };
+            let why = verify::why(&loaded.plate, &drawing, place).join("\n");
+            (format!("{name}{position}: refused: {refusal}\n{why}\n"), sound(place), Some(place))
+        }
+        // The plate is always handed over well.
+        Err(refusal @ Refusal::Miscounted) => {
+            let counted = words::count(bytes.len(), "path point");
+            let marked = words::count(marks.len(), "number");
+            let line = format!("{name}: refused: {refusal}: {counted}, and {marked} in marks\n");
+            (line, None, None)
+        }
+        Err(refusal) => (format!("{}\n", refused(loaded, refusal)), None, None),
+    };
+    let is_accepted = shown.is_some() && at.is_none();
+    output::print(&lines)?;
+    if let (Some(to), Some(path)) = (&request.output, shown) {
+        let joined = Joined::new(loaded.plate.clone(), path);
+        let at = at.map(|_| joined.count() as u32);
+        save_page(to, &joined, &page_name(&request.source), at)?;
+    }
+    if is_accepted { Ok(()) } else { Err(Failure { status: 1, line: None }) }
+}
+
 /// Without `-o` the page is named after the plate, and takes the place of no file but such a
 /// page. It shows the plate's name, and not the folder in which the plate lies.
 fn page(request: &PlateRequest, loaded: &Loaded) -> Result<(), Failure> {
     let joined = retrace(loaded)?;
-    let file = match &request.source {
-        Source::StandardInput => Path::new("plate"),
-        Source::File(file) => file,
-    };
     let path = match &request.output {
         Some(path) => path.clone(),
-        None => own_page(file)?,
+        None => own_page(page_file(&request.source))?,
     };
-    let name = file_name(Path::new(file.file_name().unwrap_or_default()));
-    output::save(&path, &view::page(&joined, &name))?;
-    if output::is_standard(&path) {
+    save_page(&path, &joined, &page_name(&request.source), request.at)
+}
+
+fn page_file(source: &Source) -> &Path {
+    match source {
+        Source::StandardInput => Path::new("plate"),
+        Source::File(file) => file,
+    }
+}
+
+fn page_name(source: &Source) -> String {
+    file_name(Path::new(page_file(source).file_name().unwrap_or_default()))
+}
+
+fn save_page(path: &Path, joined: &Joined, name: &str, at: Option<u32>) -> Result<(), Failure> {
+    output::save(path, &view::page(joined, name, at))?;
+    if output::is_standard(path) {
         return Ok(());
     }
     let counts = words::counts(joined.path.counts());
-    output::print(&format!("{}: {counts}; open it in a browser\n", file_name(&path)))
+    output::print(&format!("{}: {counts}; open it in a browser\n", file_name(path)))
 }
 
 fn own_page(file: &Path) -> Result<PathBuf, Failure> {

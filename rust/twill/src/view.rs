@@ -15,12 +15,12 @@ const SCRIPT: [&str; 3] =
 /// What each page begins with.
 pub const FIRST_LINE: &str = "<!doctype html><!-- twill view -->\n";
 
-/// The page of a joined plate; the name is its file's.
-pub fn page(joined: &Joined, name: &str) -> String {
+/// The page of a joined plate; the name is its file's. It opens at a path point, if one is named.
+pub fn page(joined: &Joined, name: &str, at: Option<u32>) -> String {
     let fill = |blank: &str| match blank {
         "name" => in_markup(name),
         "style" => STYLE.to_owned(),
-        "data" => data(joined, name),
+        "data" => data(joined, name, at),
         "script" => SCRIPT.concat(),
         _ => unreachable!("the template has no other blanks"),
     };
@@ -85,7 +85,7 @@ fn array(numbers: impl Iterator<Item = String>) -> String {
 }
 
 /// All that the page shows, one member a line.
-fn data(joined: &Joined, name: &str) -> String {
+fn data(joined: &Joined, name: &str, at: Option<u32>) -> String {
     let counts = joined.path.counts();
     let plate = &joined.plate;
     let coordinates = joined.path.points().iter().flat_map(|p| [p.x, p.y]);
@@ -108,15 +108,27 @@ fn data(joined: &Joined, name: &str) -> String {
         ("lengths", array(lengths.map(number::json))),
     ];
     let members = members.into_iter().chain(plate.is_layered().then(layers));
+    // Otherwise they follow from the marks.
+    let vertices = || {
+        let vertices = (0..counts.points).map(|place| joined.vertex(place).to_string());
+        ("vertices", array(vertices))
+    };
+    let members = members.chain(joined.leaves_another.then(vertices));
+    let members = members.chain(at.map(|at| ("at", at.to_string())));
     let lines: Vec<String> = members.map(|(key, value)| format!("\"{key}\":{value}")).collect();
     format!("{{\n{}\n}}", lines.join(",\n"))
 }
 
 #[cfg(test)]
 mod tests {
-    use super::{FIRST_LINE, page};
+    use super::FIRST_LINE;
+    use crate::joined::Joined;
     use crate::number;
     use crate::tell::tests::{joined, layered};
+
+    fn page(joined: &Joined, name: &str) -> String {
+        super::page(joined, name, None)
+    }
 
     /// The value of a member of the page's data block, as it is written there.
     fn member<'a>(page: &'a str, key: &str) -> &'a str {
@@ -169,6 +181,13 @@ mod tests {
         assert_eq!(numbers(&with, "layers"), ["3", "0", "15"]);
         let without = page(&joined(&contours, 0, 0), "a");
         assert!(!without.contains("\n\"layers\":"));
+    }
+
+    #[test]
+    fn the_data_block_holds_where_the_page_opens() {
+        let joined = joined(&[&[(0.0, 0.0), (1.0, 0.0)]], 0, 0);
+        assert_eq!(member(&super::page(&joined, "a", Some(1)), "at"), "1");
+        assert!(!page(&joined, "a").contains("\n\"at\":"));
     }
 
     #[test]

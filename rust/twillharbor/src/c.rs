@@ -69,6 +69,16 @@ pub struct RetraceResult {
     pub touches: u32,
 }
 
+/// ```c
+/// struct twillharbor_check_path_result { uint32_t number; uint64_t place; };
+/// ```
+#[repr(C)]
+#[derive(Debug, Clone, Copy)]
+pub struct CheckPathResult {
+    pub number: u32,
+    pub place: u64,
+}
+
 unsafe extern "C" {
     /// ```c
     /// struct twillharbor_distance_result
@@ -175,6 +185,27 @@ unsafe extern "C" {
         distances: *mut f64,
         distances_length: usize,
     ) -> RetraceResult;
+
+    /// ```c
+    /// struct twillharbor_check_path_result twillharbor_check_path(
+    ///     const double *points, size_t points_length,
+    ///     const uint32_t *lengths, size_t lengths_length,
+    ///     const double *path, size_t path_length,
+    ///     const uint32_t *marks, size_t marks_length,
+    ///     uint32_t *work, size_t work_length);
+    /// ```
+    fn twillharbor_check_path(
+        points: *const f64,
+        points_length: usize,
+        lengths: *const u32,
+        lengths_length: usize,
+        path: *const f64,
+        path_length: usize,
+        marks: *const u32,
+        marks_length: usize,
+        work: *mut u32,
+        work_length: usize,
+    ) -> CheckPathResult;
 }
 
 /// `twillharbor_start` on Rust's slices.
@@ -303,6 +334,32 @@ pub fn retrace(
             work.len(),
             distances.as_mut_ptr(),
             distances.len(),
+        )
+    }
+}
+
+/// `twillharbor_check_path` on Rust's slices.
+pub fn check_path(
+    points: &[f64],
+    lengths: &[u32],
+    path: &[f64],
+    marks: &[u32],
+    work: &mut [u32],
+) -> CheckPathResult {
+    // SAFETY: each slice goes as its pointer and its length; the one that the call writes is
+    // lent to it alone.
+    unsafe {
+        twillharbor_check_path(
+            points.as_ptr(),
+            points.len(),
+            lengths.as_ptr(),
+            lengths.len(),
+            path.as_ptr(),
+            path.len(),
+            marks.as_ptr(),
+            marks.len(),
+            work.as_mut_ptr(),
+            work.len(),
         )
     }
 }

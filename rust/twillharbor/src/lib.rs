@@ -13,10 +13,12 @@
 #![deny(unsafe_code)]
 
 pub mod c;
+mod check_path;
 mod plate;
 mod refusal;
 mod retrace;
 
+pub use check_path::{check_path, check_path_with, check_path_work};
 pub use plate::{
     Entry, HIGHEST_LAYER, Plate, Size, Start, StartPointStrategy, order, order_into, start,
     straight, straight_into,

@@ -4,6 +4,7 @@ use std::error::Error;
 use std::fmt;
 
 const BAD_LAYER: u32 = 13;
+const NOT_DRAWN: u32 = 12;
 
 /// Why a call was refused: the table of documents 01 and 02. Its conditions are tested in this
 /// order, 13 between 3 and 4, and the first that holds wins.
@@ -14,7 +15,8 @@ pub enum Refusal {
     TooManyContours,
     /// 2: the lengths sum to more than 65,536.
     TooManyPoints,
-    /// 3: the point slice's length is not twice that sum.
+    /// 3: the point slice's length is not twice that sum; or, of a path that is checked, it has half
+    /// a point or not two marks for each.
     Miscounted,
     /// 13: the layer slice has not one number for each contour, or a layer is above 15.
     BadLayer(LayerFault),
@@ -35,6 +37,12 @@ pub enum Refusal {
     },
     /// 7: no contour holds a point.
     Blank,
+    /// 12: a path that is checked does not draw the plate.
+    NotDrawn {
+        /// The first path point that breaks a rule; or the number of path points, where none does
+        /// and a segment is not cut or a contour not entered.
+        place: u64,
+    },
 }
 
 /// What is wrong with the layers. The length is tested first.
@@ -65,6 +73,7 @@ impl Refusal {
             Self::WorkShort { .. } => 5,
             Self::Full { .. } => 6,
             Self::Blank => 7,
+            Self::NotDrawn { .. } => NOT_DRAWN,
         }
     }
 
@@ -80,19 +89,21 @@ impl Refusal {
             Self::WorkShort { .. } => "work short",
             Self::Full { .. } => "full",
             Self::Blank => "blank",
+            Self::NotDrawn { .. } => "path does not draw the plate",
         }
     }
 
     /// The refusal's place, 0 where the table gives none.
     #[must_use]
-    pub const fn place(self) -> u32 {
+    pub const fn place(self) -> u64 {
         match self {
             Self::OffThePlate { place }
             | Self::WorkShort { place }
             | Self::Full { place }
             | Self::BadLayer(
                 LayerFault::Length { contours: place } | LayerFault::Layer { contour: place },
-            ) => place,
+            ) => place as u64,
+            Self::NotDrawn { place } => place,
             Self::TooManyContours | Self::TooManyPoints | Self::Miscounted | Self::Blank => 0,
         }
     }
@@ -164,9 +175,24 @@ pub(crate) fn accepted_plate(number: u32, place: u32, contours: usize) -> Result
     }))
 }
 
+/// [`accepted`] for the check of a path of that many points.
+///
+/// # Panics
+///
+/// As [`accepted`].
+pub(crate) fn accepted_path(number: u32, place: u64, points: usize) -> Result<(), Refusal> {
+    match (number, u32::try_from(place)) {
+        (NOT_DRAWN, _) if place <= points as u64 => Err(Refusal::NotDrawn { place }),
+        (0..=4, Ok(place)) | (5, Ok(place @ 0)) => accepted(number, place),
+        _ => panic!(
+            "libtwillharbor.a answered number {number}, place {place} of a path of {points} points"
+        ),
+    }
+}
+
 #[cfg(test)]
 mod tests {
-    use super::{LayerFault, Refusal, accepted, accepted_plate};
+    use super::{LayerFault, Refusal, accepted, accepted_path, accepted_plate};
 
     #[test]
     fn numbers_words_and_places_are_those_of_the_table() {
@@ -181,6 +207,7 @@ mod tests {
         ];
         for (number, place, word) in table {
             let refusal = accepted(number, place).unwrap_err();
+            let place = u64::from(place);
             assert_eq!((refusal.number(), refusal.place(), refusal.word()), (number, place, word));
         }
         assert_eq!(accepted(0, 0), Ok(()));
@@ -221,10 +248,36 @@ mod tests {
         ] {
             let refusal = accepted_plate(13, place, 9).unwrap_err();
             assert_eq!(refusal, Refusal::BadLayer(fault));
-            assert_eq!((refusal.number(), refusal.place()), (13, place));
+            assert_eq!((refusal.number(), refusal.place()), (13, place.into()));
             assert_eq!(refusal.word(), "bad layer");
             assert_eq!(refusal.to_string(), message);
         }
         assert_eq!(accepted_plate(0, 0, 0), Ok(()));
+    }
+    #[test]
+    fn a_path_is_refused_at_one_of_its_points_or_its_end() {
+        for (number, place, points, word) in [
+            (12, 0, 0, "path does not draw the plate"),
+            (12, 7, 9, "path does not draw the plate"),
+            (12, 1 << 40, 1 << 40, "path does not draw the plate"),
+            (1, 0, 9, "too many contours"),
+            (2, 0, 9, "too many points"),
+            (3, 0, 9, "miscounted"),
+            (4, 131_071, 9, "off the plate"),
+            (5, 0, 9, "work short"),
+        ] {
+            let refusal = accepted_path(number, place, points).unwrap_err();
+            assert_eq!((refusal.number(), refusal.place(), refusal.word()), (number, place, word));
+        }
+        assert_eq!(accepted_path(0, 0, 9), Ok(()));
+        let refusal = Refusal::NotDrawn { place: 1 << 40 };
+        let message = "path does not draw the plate (refusal 12, place 1099511627776)";
+        assert_eq!(refusal.to_string(), message);
+        for (number, place) in [(12, 10), (5, 1), (6, 0), (7, 0), (13, 0), (0, 1), (4, 1 << 32)] {
+            let outcome = std::panic::catch_unwind(|| accepted_path(number, place, 9));
+            assert!(outcome.is_err(), "number {number}, place {place} passed");
+        }
+        assert!(std::panic::catch_unwind(|| accepted(12, 0)).is_err());
+        assert!(std::panic::catch_unwind(|| accepted_plate(12, 0, 9)).is_err());
     }
 }

@@ -123,8 +123,8 @@ pub struct Counts {
 
 /// What the retrace call gives: the path, and how it comes to each of its points.
 ///
-/// A jump or touch leaves the nearest of the path points before it, but for less than a
-/// thousand-millionth part of the squared distance to where it lands.
+/// A jump or touch of such a path leaves the nearest of the path points before it, but for less
+/// than a thousand-millionth part of the squared distance to where it lands.
 #[derive(Debug, Clone, PartialEq)]
 pub struct MarkedPath {
     points: Vec<Point>,
@@ -149,6 +149,28 @@ impl MarkedPath {
             points: path.iter().map(|&[x, y]| Point { x, y }).collect(),
             counts,
         }
+    }
+
+    /// A path from elsewhere, with its counts: two numbers of each slice to a path point. There is
+    /// none where the slices do not match, or where the marks are not a start, if there is a path
+    /// point, and then marks of the other kinds. Whether it draws a plate,
+    /// [`check_path`](crate::check_path()) says.
+    #[must_use]
+    pub fn of(path: &[f64], marks: &[u32]) -> Option<Self> {
+        let ((path, half), (numbers, _)) = (path.as_chunks(), marks.as_chunks());
+        if !half.is_empty() || marks.len() != 2 * path.len() {
+            return None;
+        }
+        let marks: Vec<Mark> =
+            numbers.iter().map(|&numbers| Mark::of(numbers)).collect::<Option<_>>()?;
+        let is_start = |mark: &Mark| matches!(mark, Mark::Start { .. });
+        if marks.iter().enumerate().any(|(place, mark)| is_start(mark) != (place == 0)) {
+            return None;
+        }
+        let of_kind = |kind| numbers.iter().filter(|&&[of, _]| of == kind).count();
+        let [cuts, back_steps, jumps, touches] = [1, 2, 3, 4].map(of_kind);
+        let counts = Counts { points: path.len(), cuts, back_steps, jumps, touches };
+        Some(Self { points: path.iter().map(|&[x, y]| Point { x, y }).collect(), marks, counts })
     }
 
     /// The path points.
@@ -345,6 +367,24 @@ mod tests {
         for marks in [[0, 0, 0, 1], [1, 0, 1, 0], [4, 0, 4, 1], [0, 0, 5, 1]] {
             let outcome = std::panic::catch_unwind(|| MarkedPath::new(&[0.0; 4], &marks, counts));
             assert!(outcome.is_err(), "{marks:?} passed");
+        }
+    }
+    #[test]
+    fn a_path_from_elsewhere_is_read_and_counted() {
+        let path = [0.0, 0.0, 1.0, 0.0, 0.0, 0.0, 0.0, 0.0, 5.0, 0.0];
+        let marks = [0, 7, 1, 7, 2, 0, 4, 1, 3, 9];
+        let read = MarkedPath::of(&path, &marks).unwrap();
+        let counts = Counts { points: 5, cuts: 1, back_steps: 1, jumps: 1, touches: 1 };
+        assert_eq!(read.counts(), counts);
+        assert_eq!(read, MarkedPath::new(&path, &marks, counts));
+        assert_eq!(MarkedPath::of(&[], &[]).unwrap().counts(), Counts::default());
+        assert_eq!(MarkedPath::of(&path[..9], &marks), None);
+        assert_eq!(MarkedPath::of(&path[..8], &marks), None);
+        assert_eq!(MarkedPath::of(&path, &marks[..9]), None);
+        for (place, kind) in [(0, 1), (0, 5), (2, 0), (4, 5), (8, 0)] {
+            let mut other = marks;
+            other[place] = kind;
+            assert_eq!(MarkedPath::of(&path, &other), None);
         }
     }
 }

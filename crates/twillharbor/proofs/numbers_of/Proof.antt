@@ -25,6 +25,9 @@ enum-known-r-3 c = search needs
 enum-told-4 : tie.Need-enum-told-4
 enum-told-4 c = search needs
 
+enum-told-5 : tie.Need-enum-told-5
+enum-told-5 c = search needs
+
 enum-known-r-4 : tie.Need-enum-known-r-4
 enum-known-r-4 c = search needs
 
@@ -57,8 +60,11 @@ unfolding refusal
 returns-7 c = rw (c .enum-told4 .given .1)
 
 returns-8 : tie.Need-returns-8
+returns-8 c = absurd (c .before .before .pre _ (c .enum-told5 .given .1))
+
+returns-9 : tie.Need-returns-9
 unfolding refusal
-returns-8 c = rw (c .before .r4 .given .1)
+returns-9 c = rw (c .before .r4 .given .1)
 
 pub numbers-of-spec : {M : Type 1} → statement M
 numbers-of-spec =
@@ -71,6 +77,7 @@ numbers-of-spec =
     enum-known-r-2
     enum-known-r-3
     enum-told-4
+    enum-told-5
     enum-known-r-4
     returns
     returns-2
@@ -79,4 +86,5 @@ numbers-of-spec =
     returns-5
     returns-6
     returns-7
-    returns-8)
+    returns-8
+    returns-9)

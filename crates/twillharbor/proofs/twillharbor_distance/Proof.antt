@@ -3,6 +3,7 @@ use mathlib.Core.Path.{_≡_, sym, ap, _∙_}
 use lib.Ieee.{ofBits}
 use Rattle.rules.specs.HandedOver.{distanceAnswer}
 use Rattle.twillharbor.specs.Results.{distanceResult, pointOf}
+use Rattle.twillharbor.specs.Refusals.{of-other, distance-other}
 use Rattle.plate.specs.Refused.{refused}
 use borrow.Author.Needs.{needs}
 use Rattle.twillharbor.proofs.twillharbor_distance.Statement.{statement}
@@ -18,7 +19,10 @@ enum-known-answer-2 : tie.Need-enum-known-answer-2
 enum-known-answer-2 c = search needs
 
 numbers-of-requires : tie.Need-numbers-of-requires
-numbers-of-requires c κs = search needs
+unfolding distanceAnswer pointOf
+numbers-of-requires c κs =
+    let a = ap distanceAnswer (c .before .answer2 .given .1) in
+    of-other _ _ (sym a ∙ c .before .before .before .distance-call .ensures) (distance-other _ _)
 
 returns : tie.Need-returns
 unfolding distanceResult pointOf distanceAnswer

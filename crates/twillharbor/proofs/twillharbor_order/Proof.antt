@@ -3,9 +3,14 @@ use mathlib.Core.Path.{_≡_, sym, ap, _∙_}
 use Rattle.rules.specs.HandedOver.{orderAnswer}
 use Rattle.plate.specs.Refused.{refused}
 use Rattle.twillharbor.specs.Results.{orderResult}
+use Rattle.twillharbor.specs.Refusals.{of-other, order-other}
 use borrow.Author.Needs.{needs}
 use Rattle.twillharbor.proofs.twillharbor_order.Statement.{statement}
 use Rattle.twillharbor.proofs.twillharbor_order.Tie as tie
+
+-- after the call, from where its refusal is told
+abbrev called : tie.After-known-told2 → tie.After-order-call
+called c = c .before .before .before .before .before .before .before
 
 strategy-of-requires : tie.Need-strategy-of-requires
 strategy-of-requires c κs = search needs
@@ -20,7 +25,10 @@ enum-known-answer-2 : tie.Need-enum-known-answer-2
 enum-known-answer-2 c = search needs
 
 numbers-of-requires : tie.Need-numbers-of-requires
-numbers-of-requires c κs = search needs
+unfolding orderAnswer
+numbers-of-requires c κs =
+    let a = ap orderAnswer (c .before .answer2 .given .1) in
+    of-other _ _ (sym a ∙ called c .order-call .ensures .0) (order-other _ _ _)
 
 same-length : tie.Need-same-length
 same-length c = search needs

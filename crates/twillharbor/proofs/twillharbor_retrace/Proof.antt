@@ -1,29 +1,18 @@
 -- `twillharbor::twillharbor_retrace` meets its contract. Assumes nothing.
 use mathlib.Core.Path.{_≡_, sym, ap, _∙_}
-use Prim.Native.Nat.{ℕ}
-use native.Mathlib.Omega.{arith}
-use Rattle.rules.specs.HandedOver.{refuses, refusal, retraceAnswer}
+use Rattle.rules.specs.HandedOver.{retraceAnswer}
 use Rattle.rules.specs.Tools.{pick}
 use Rattle.rules.specs.HowNear.{writtenPoints}
-use Rattle.rules.specs.declared.Refusal.{Refusal}
-use Rattle.rules.specs.declared.Refusal.the-variants.{TooManyContours, TooManyPoints, Miscounted, OffThePlate, WorkShort, Full, Blank, BadLayer}
 use Rattle.plate.specs.Refused.{refused}
 use Rattle.twillharbor.specs.Results.{retraceResult, countsOf, writtenOf}
+use Rattle.twillharbor.specs.Refusals.{not-zero, of-other, retrace-other}
 use borrow.Author.Needs.{needs}
 use Rattle.twillharbor.proofs.twillharbor_retrace.Statement.{statement}
 use Rattle.twillharbor.proofs.twillharbor_retrace.Tie as tie
 
--- no refusal has the number of a result
-not-zero : (r : Refusal) (n k : ℕ) → refusal {A = ℕ} r ≡ refuses n k → n ≡ 0 → ⊥
-unfolding refusal
-not-zero TooManyContours n k h z = let e : _≡_ {A = ℕ} 1 n = cc in omega arith
-not-zero TooManyPoints n k h z = let e : _≡_ {A = ℕ} 2 n = cc in omega arith
-not-zero Miscounted n k h z = let e : _≡_ {A = ℕ} 3 n = cc in omega arith
-not-zero (OffThePlate i) n k h z = let e : _≡_ {A = ℕ} 4 n = cc in omega arith
-not-zero (WorkShort i) n k h z = let e : _≡_ {A = ℕ} 5 n = cc in omega arith
-not-zero (Full i) n k h z = let e : _≡_ {A = ℕ} 6 n = cc in omega arith
-not-zero Blank n k h z = let e : _≡_ {A = ℕ} 7 n = cc in omega arith
-not-zero (BadLayer i) n k h z = let e : _≡_ {A = ℕ} 13 n = cc in omega arith
+-- after the call, from where its refusal is told
+abbrev called : tie.After-known-told2 → tie.After-retrace-call
+called c = c .before .before .before .before .before .before .before .before .before .before .before
 
 strategy-of-requires : tie.Need-strategy-of-requires
 strategy-of-requires c κs = search needs
@@ -38,7 +27,10 @@ enum-known-answer-2 : tie.Need-enum-known-answer-2
 enum-known-answer-2 c = search needs
 
 numbers-of-requires : tie.Need-numbers-of-requires
-numbers-of-requires c κs = search needs
+unfolding retraceAnswer
+numbers-of-requires c κs =
+    let a = ap retraceAnswer (c .before .answer2 .given .1) in
+    of-other _ _ (sym a ∙ called c .retrace-call .ensures .0 .0) (retrace-other _ _ _ _ _)
 
 same-length : tie.Need-same-length
 same-length c = search needs

@@ -6,6 +6,7 @@ use Rattle.rules.specs.Tools.{pick}
 use Rattle.rules.specs.HandedOver.{startAnswer}
 use Rattle.plate.specs.Refused.{refused}
 use Rattle.twillharbor.specs.Results.{startResult}
+use Rattle.twillharbor.specs.Refusals.{of-other, start-other}
 use Rattle.twillharbor.specs.declared.StartResult.{StartResult}
 use mathlib.Core.Bool.{Bool, true, false}
 use borrow.Author.Needs.{needs}
@@ -37,7 +38,10 @@ enum-known-answer-2 : tie.Need-enum-known-answer-2
 enum-known-answer-2 c = search needs
 
 numbers-of-requires : tie.Need-numbers-of-requires
-numbers-of-requires c κs = search needs
+unfolding startAnswer
+numbers-of-requires c κs =
+    let a = ap startAnswer (c .before .answer2 .given .1) in
+    of-other _ _ (sym a ∙ c .before .before .before .start-call .ensures) (start-other _)
 
 returns : tie.Need-returns
 unfolding startResult startAnswer

@@ -3,9 +3,14 @@ use mathlib.Core.Path.{_≡_, sym, ap, _∙_}
 use Rattle.rules.specs.HandedOver.{straightAnswer}
 use Rattle.plate.specs.Refused.{refused}
 use Rattle.twillharbor.specs.Results.{straightResult}
+use Rattle.twillharbor.specs.Refusals.{of-other, straight-other}
 use borrow.Author.Needs.{needs}
 use Rattle.twillharbor.proofs.twillharbor_straight.Statement.{statement}
 use Rattle.twillharbor.proofs.twillharbor_straight.Tie as tie
+
+-- after the call, from where its refusal is told
+abbrev called : tie.After-known-told2 → tie.After-straight-call
+called c = c .before .before .before .before .before .before .before
 
 strategy-of-requires : tie.Need-strategy-of-requires
 strategy-of-requires c κs = search needs
@@ -20,7 +25,10 @@ enum-known-answer-2 : tie.Need-enum-known-answer-2
 enum-known-answer-2 c = search needs
 
 numbers-of-requires : tie.Need-numbers-of-requires
-numbers-of-requires c κs = search needs
+unfolding straightAnswer
+numbers-of-requires c κs =
+    let a = ap straightAnswer (c .before .answer2 .given .1) in
+    of-other _ _ (sym a ∙ called c .straight-call .ensures .0) (straight-other _ _ _)
 
 same-length : tie.Need-same-length
 same-length c = search needs

@@ -5,7 +5,7 @@
 //! A coordinate may also be a string with a number of the text form, as `"0x1.8p3"`, and the
 //! words NaN, Infinity and -Infinity are read, which some programs write.
 
-use super::excerpt;
+use super::{Drawing, excerpt};
 use crate::number;
 use crate::plate::{self, Layer, Plate, Remark};
 use twillharbor::HIGHEST_LAYER;
@@ -23,6 +23,40 @@ pub fn read(text: &str) -> Result<Plate, Remark> {
     match reader.peek() {
         None => Ok(reader.plate),
         Some(_) => Err(reader.fault("expected nothing more after the contours")),
+    }
+}
+
+/// Reads a path with its marks from an object with `path` and `marks`. What else it holds is
+/// skipped: it is told of the plate that is given beside the path.
+pub fn read_path(text: &str) -> Result<Drawing, Remark> {
+    let mut reader = Reader { text, at: 0, plate: Plate::default() };
+    if text.starts_with('\u{FEFF}') {
+        reader.at = '\u{FEFF}'.len_utf8();
+    }
+    let mut marks = None;
+    reader.peek();
+    reader.members(|reader, key, byte| {
+        let is_twice = match key.as_str() {
+            "path" => {
+                reader.plate.begin();
+                reader.elements("an array of path points", Reader::point)?;
+                reader.plate.lengths.len() > 1
+            }
+            "marks" => marks.replace(reader.marks()?).is_some(),
+            _ => return reader.skip(),
+        };
+        match is_twice {
+            true => Err(Remark::new(byte, format!("`{key}` is given twice"))),
+            false => Ok(()),
+        }
+    })?;
+    if reader.peek().is_some() {
+        return Err(reader.fault("expected nothing more after the path"));
+    }
+    let Plate { points, bytes, lengths, .. } = reader.plate;
+    match marks {
+        Some(marks) if !lengths.is_empty() => Ok(Drawing { path: points, marks, bytes }),
+        _ => Err(Remark::new(reader.at, "a path has `path` and `marks`")),
     }
 }
 
@@ -159,6 +193,34 @@ impl<'a> Reader<'a> {
             Ok(())
         })?;
         Ok(layers)
+    }
+
+    /// Kinds and references. How many there are is for the library to say.
+    fn marks(&mut self) -> Result<Vec<u32>, Remark> {
+        let mut marks = Vec::new();
+        self.elements("an array of marks", |reader| {
+            reader.elements("a mark, [kind, reference]", |reader| {
+                marks.push(reader.whole("kind or reference", u32::MAX)?);
+                Ok(())
+            })
+        })?;
+        Ok(marks)
+    }
+
+    /// Goes over a value of any form.
+    fn skip(&mut self) -> Result<(), Remark> {
+        match self.peek() {
+            Some(b'[') => self.elements("an array", Self::skip),
+            Some(b'{') => self.members(|reader, _, _| reader.skip()),
+            Some(b'"') => self.string().map(|_| ()),
+            _ => match self.word() {
+                "" => Err(self.expected("a value")),
+                word => {
+                    self.at += word.len();
+                    Ok(())
+                }
+            },
+        }
     }
 
     fn start(&mut self) -> Result<(), Remark> {
@@ -313,7 +375,7 @@ fn is_json_number(word: &str) -> bool {
 
 #[cfg(test)]
 mod tests {
-    use super::{is_json_number, read};
+    use super::{is_json_number, read, read_path};
     use crate::plate;
     use twillharbor::StartPointStrategy;
 
@@ -347,6 +409,39 @@ mod tests {
         assert_eq!(read(r#"{"contours": [[[0,0]], []], "layers": [1]}"#).unwrap().layers.len(), 1);
         let without = read("[[[0,0]], []]").unwrap();
         assert_eq!(without.layers, [plate::Layer::default(), plate::Layer::default()]);
+    }
+
+    #[test]
+    fn a_path_stands_beside_its_marks() {
+        let text = r#"{"width":8, "start":"inside","layers":[0,1],"of":{"a":[1,{"b":null}]},
+            "marks":[[0,2],[7,4294967295]],"path":[[0,-0.0],[NaN,"0x1p3"]]}"#;
+        let drawing = read_path(text).unwrap();
+        assert_eq!(drawing.marks, [0, 2, 7, u32::MAX]);
+        assert_eq!(
+            drawing.path.iter().map(|x| x.to_bits()).collect::<Vec<_>>(),
+            [0.0, -0.0, f64::NAN, 8.0].map(f64::to_bits)
+        );
+        assert_eq!(drawing.bytes.len(), 2);
+        assert!(text[drawing.bytes[1]..].starts_with("[NaN"));
+        let cases = [
+            ("{}", 2, "a path has `path` and `marks`"),
+            ("{\"path\":[]}", 11, "a path has `path` and `marks`"),
+            ("{\"marks\":[]}", 12, "a path has `path` and `marks`"),
+            ("{\"path\":[],\"path\":[]}", 11, "`path` is given twice"),
+            ("{\"marks\":[],\"marks\":[]}", 12, "`marks` is given twice"),
+            (
+                "{\"marks\":[[0,-1]]}",
+                13,
+                "expected as kind or reference a whole number from 0 to 4294967295, not `-1`",
+            ),
+            ("{\"path\":[[0]]}", 9, "a point has two numbers, x and y"),
+            ("{\"path\":[],\"marks\":[]} 1", 23, "expected nothing more after the path, not `1`"),
+            ("{\"a\":}", 5, "expected a value, not `}`"),
+        ];
+        for (text, byte, message) in cases {
+            let remark = read_path(text).unwrap_err();
+            assert_eq!((remark.byte, remark.message.as_str()), (byte, message), "{text}");
+        }
     }
 
     #[test]

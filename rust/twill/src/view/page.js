@@ -561,5 +561,6 @@ window.addEventListener("hashchange", readAddress);
 window.addEventListener("beforeprint", () => { isPrinting = true; });
 window.addEventListener("afterprint", () => { isPrinting = false; });
 new ResizeObserver(resize).observe(element("plate"));
+if (data.at !== undefined) go(data.at);
 readAddress();
 resize();

@@ -60,6 +60,8 @@ const jumps = new Uint32Array(data.jumps), touches = new Uint32Array(data.touche
       touches[touch++] = i;
     }
   }
+  // A path from elsewhere may cut from another vertex that has the coordinates of a segment's end.
+  if (data.vertices) vertices.set(data.vertices);
 })();
 
 /** How many of the sorted numbers are at most this one. */

@@ -1,0 +1,10 @@
+pub mod Says
+pub mod SameBits
+pub mod MarkCounts
+pub mod Rules
+pub mod Checks
+pub mod Deciding
+pub mod Tallies
+pub mod Counts
+pub mod ByPoints
+pub mod Theorem

@@ -1,0 +1,53 @@
+-- `limits_paths::along` is safe and ends. Assumes nothing.
+use mathlib.Core.Path.{_≡_}
+use Prim.Native.Nat.{_-_}
+use native.Mathlib.Omega.{arith}
+use lib.ListN.{length, length-set}
+use borrow.Author.Needs.{needs}
+use Rattle.limits_paths.proofs.along.Statement.{statement}
+use Rattle.limits_paths.proofs.along.Tie as tie
+
+abbrev Inv-loop : tie.InvT-loop
+Inv-loop xs₀ x₀ i₀ xs x i = length xs ≡ length xs₀
+
+abbrev μ-loop : tie.MeasureT-loop
+μ-loop xs₀ x₀ i₀ xs x i = length xs₀ - i
+
+loop-holds : tie.Need-loop-holds Inv-loop μ-loop
+loop-holds c = search needs
+
+mul-xs : tie.Need-mul-xs Inv-loop μ-loop
+mul-xs c = search needs
+
+slice-write-xs : tie.Need-slice-write-xs Inv-loop μ-loop
+slice-write-xs c = search needs
+
+add-i : tie.Need-add-i Inv-loop μ-loop
+add-i c = search needs
+
+loop-less : tie.Need-loop-less Inv-loop μ-loop
+loop-less c = omega arith
+
+loop-again : tie.Need-loop-again Inv-loop μ-loop
+loop-again c = simp length-set (search needs)
+
+same-length : tie.Need-same-length Inv-loop μ-loop
+same-length c = search needs
+
+returns : tie.Need-returns Inv-loop μ-loop
+returns c = search needs
+
+pub along-spec : {M : Type 1} → statement M
+along-spec =
+    tie.close
+    (tie.spec
+    Inv-loop
+    μ-loop
+    loop-holds
+    mul-xs
+    slice-write-xs
+    add-i
+    loop-less
+    loop-again
+    same-length
+    returns)

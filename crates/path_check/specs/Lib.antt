@@ -1,0 +1,4 @@
+pub mod Labels
+pub mod Ending
+pub mod Failing
+pub mod Outcome

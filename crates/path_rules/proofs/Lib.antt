@@ -1,0 +1,4 @@
+pub mod Landing
+pub mod Cutting
+pub mod ByKind
+pub mod Tallying

@@ -21,7 +21,7 @@
  *   1   too many contours   M above 4,096
  *   2   too many points     the lengths sum to more than 65,536
  *   3   miscounted          point slice length is not twice that sum; the check call: path
- *                           slice length is odd, or there are not two marks a path point
+ *                           slice length is odd, or marks slice is not as long
  *   13  bad layer           layer slice length is not M, or a layer is above 15
  *   4   off the plate       a coordinate is NaN, infinite or of magnitude above
  *                           1,000,000 (the distance call: 2,147,483,648)

@@ -62,7 +62,7 @@ const CASES: [(Case, &str); 22] = [
     (Case::Miscounted, "3: of the plate"),
     (Case::OffThePlate, "4: off the plate"),
     (Case::OddPath, "3: half a path point"),
-    (Case::MarksMiscounted, "3: not two marks a path point"),
+    (Case::MarksMiscounted, "3: marks not as long as the path"),
     (Case::WorkShort, "5: work short"),
     (Case::OddPathAndShort, "3: of the path, where work is short too"),
     (Case::Accepted, "accepted"),
@@ -489,7 +489,7 @@ fn small_path(
 mod tests {
     use harness::random::Random;
 
-    use super::{CASES, Met, compare, entries, has_other_vertex, small_plates};
+    use super::{CASES, Case, Met, compare, entries, has_other_vertex, small_plates};
     use crate::drawn::Handed;
     use crate::retrace_plates::KINDS;
 
@@ -503,7 +503,7 @@ mod tests {
             }
         }
         let numbers = met.cases.numbers();
-        assert!(numbers[8] > 500, "{numbers:?}");
+        assert!(numbers[Case::Accepted as usize] > 500, "{numbers:?}");
     }
 
     #[test]

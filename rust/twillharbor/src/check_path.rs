@@ -66,7 +66,7 @@ pub fn check_path(
 /// # Errors
 ///
 /// Those of [`check_path`], and [`WorkShort`](Refusal::WorkShort) before
-/// [`NotDrawn`](Refusal::NotDrawn). None but that alters the work slice.
+/// [`NotDrawn`](Refusal::NotDrawn), which alone may alter the work slice.
 pub fn check_path_with(
     points: &[f64],
     lengths: &[u32],

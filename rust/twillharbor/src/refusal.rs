@@ -7,7 +7,7 @@ const BAD_LAYER: u32 = 13;
 const NOT_DRAWN: u32 = 12;
 
 /// Why a call was refused: the table of documents 01 and 02. Its conditions are tested in this
-/// order, 13 between 3 and 4, and the first that holds wins.
+/// order, 13 between 3 and 4, and 3 of a path that is checked after 4; the first that holds wins.
 #[derive(Debug, Clone, Copy, PartialEq, Eq, Hash)]
 #[non_exhaustive]
 pub enum Refusal {
@@ -15,8 +15,8 @@ pub enum Refusal {
     TooManyContours,
     /// 2: the lengths sum to more than 65,536.
     TooManyPoints,
-    /// 3: the point slice's length is not twice that sum; or, of a path that is checked, it has half
-    /// a point or not two marks for each.
+    /// 3: the point slice's length is not twice that sum; or, of a path that is checked, its slice's
+    /// length is odd or the marks slice is not as long.
     Miscounted,
     /// 13: the layer slice has not one number for each contour, or a layer is above 15.
     BadLayer(LayerFault),
@@ -254,6 +254,7 @@ mod tests {
         }
         assert_eq!(accepted_plate(0, 0, 0), Ok(()));
     }
+
     #[test]
     fn a_path_is_refused_at_one_of_its_points_or_its_end() {
         for (number, place, points, word) in [

@@ -121,10 +121,11 @@ pub struct Counts {
     pub touches: usize,
 }
 
-/// What the retrace call gives: the path, and how it comes to each of its points.
+/// A path, and how it comes to each of its points: what the retrace call gives, or one from
+/// elsewhere ([`MarkedPath::of`]).
 ///
-/// A jump or touch of such a path leaves the nearest of the path points before it, but for less
-/// than a thousand-millionth part of the squared distance to where it lands.
+/// A jump or touch of the retrace call's path leaves the nearest of the path points before it, but
+/// for less than a thousand-millionth part of the squared distance to where it lands.
 #[derive(Debug, Clone, PartialEq)]
 pub struct MarkedPath {
     points: Vec<Point>,
@@ -369,6 +370,7 @@ mod tests {
             assert!(outcome.is_err(), "{marks:?} passed");
         }
     }
+
     #[test]
     fn a_path_from_elsewhere_is_read_and_counted() {
         let path = [0.0, 0.0, 1.0, 0.0, 0.0, 0.0, 0.0, 0.0, 5.0, 0.0];

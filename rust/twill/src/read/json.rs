@@ -195,14 +195,20 @@ impl<'a> Reader<'a> {
         Ok(layers)
     }
 
-    /// Kinds and references. How many there are is for the library to say.
+    /// Kinds and references. How many marks there are is for the library to say.
     fn marks(&mut self) -> Result<Vec<u32>, Remark> {
         let mut marks = Vec::new();
         self.elements("an array of marks", |reader| {
+            reader.peek();
+            let (byte, before) = (reader.at, marks.len());
             reader.elements("a mark, [kind, reference]", |reader| {
                 marks.push(reader.whole("kind or reference", u32::MAX)?);
                 Ok(())
-            })
+            })?;
+            match marks.len() - before {
+                2 => Ok(()),
+                count => Err(Remark::new(byte, format!("a mark has two numbers, not {count}"))),
+            }
         })?;
         Ok(marks)
     }
@@ -435,6 +441,8 @@ mod tests {
                 "expected as kind or reference a whole number from 0 to 4294967295, not `-1`",
             ),
             ("{\"path\":[[0]]}", 9, "a point has two numbers, x and y"),
+            ("{\"marks\":[[0]]}", 10, "a mark has two numbers, not 1"),
+            ("{\"marks\":[[0,0],[0,1,0]]}", 16, "a mark has two numbers, not 3"),
             ("{\"path\":[],\"marks\":[]} 1", 23, "expected nothing more after the path, not `1`"),
             ("{\"a\":}", 5, "expected a value, not `}`"),
         ];

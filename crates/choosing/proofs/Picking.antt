@@ -12,7 +12,7 @@ use lib.Dec.{leb}
 use Rattle.rules.specs.Tools.{pick, foldl, leads, highestLayer, foremost}
 use Rattle.rules.specs.HandedOver.{Plate, Contour, layerAt}
 use Rattle.rules.specs.SamplesAndCache.{Waiting}
-use Rattle.rules.specs.RetraceAndMarks.{closer, waitingLayer, choose, numberOf}
+use Rattle.rules.specs.RetraceAndMarks.{closer, waitingLayer, choose, waitingNumber}
 use Rattle.rules.specs.declared.SpatialGrid.{SpatialGrid}
 use Rattle.path.specs.Lists.{All, all-give}
 use Rattle.path.specs.Layers.{beatsIn, taking, leadsIn, foremost-is, foremost-has}
@@ -42,9 +42,9 @@ waiters-wait waits j (suc n) = go (ℕ-discrete (waits j) 0) (waiters-wait waits
 
 -- the number of the one that has the lead
 abbrev leadNumber : Option Waiting → Option ℕ
-leadNumber o = Option·map numberOf o
+leadNumber o = Option·map waitingNumber o
 
-number-picked : (t : Bool) (w : Waiting) (o : Option Waiting) → leadNumber (pick t (some w) o) ≡ pick t (some (numberOf w)) (leadNumber o)
+number-picked : (t : Bool) (w : Waiting) (o : Option Waiting) → leadNumber (pick t (some w) o) ≡ pick t (some (waitingNumber w)) (leadNumber o)
 unfolding pick
 number-picked true w o = refl
 number-picked false w o = refl
@@ -52,7 +52,7 @@ number-picked false w o = refl
 module _ (p : Plate) (ls : List ℕ) (same : p .layers ≡ ls) (ds : List Float) where
   -- its cached distance is in the slice
   abbrev Kept : Waiting → Type 0
-  Kept w = getD ds (numberOf w) nan ≡ w .kept .squared
+  Kept w = getD ds (waitingNumber w) nan ≡ w .kept .squared
 
   abbrev LeadKept : Option Waiting → Type 0
   LeadKept none = Unit {0}
@@ -65,16 +65,16 @@ module _ (p : Plate) (ls : List ℕ) (same : p .layers ≡ ls) (ds : List Float)
   abbrev byNumbers : Option ℕ → ℕ → Option ℕ
   byNumbers = leadsIn (layerBy ls) (closerBy ds)
 
-  same-layer : (w : Waiting) → layerBy ls (numberOf w) ≡ waitingLayer p w
-  unfolding layerBy waitingLayer layerAt numberOf
+  same-layer : (w : Waiting) → layerBy ls (waitingNumber w) ≡ waitingLayer p w
+  unfolding layerBy waitingLayer layerAt waitingNumber
   same-layer w = rw same
 
   same-test : (w best : Waiting) → Kept w → Kept best →
-      beatsIn (layerBy ls) (closerBy ds) (numberOf w) (numberOf best) ≡ beatsIn (waitingLayer p) closer w best
-  unfolding beatsIn closerBy numberOf closer
+      beatsIn (layerBy ls) (closerBy ds) (waitingNumber w) (waitingNumber best) ≡ beatsIn (waitingLayer p) closer w best
+  unfolding beatsIn closerBy waitingNumber closer
   same-test w best h b = rw (same-layer w, same-layer best, h, b)
 
-  lead-number : (o : Option Waiting) (w : Waiting) → LeadKept o → Kept w → leadNumber (byRules o w) ≡ byNumbers (leadNumber o) (numberOf w)
+  lead-number : (o : Option Waiting) (w : Waiting) → LeadKept o → Kept w → leadNumber (byRules o w) ≡ byNumbers (leadNumber o) (waitingNumber w)
   unfolding leadsIn taking leads
   lead-number none w b h = rw (same-layer w) (number-picked (leb (waitingLayer p w) highestLayer) w none)
   lead-number (some best) w b h = rw (same-test w best h b) (number-picked (beatsIn (waitingLayer p) closer w best) w (some best))
@@ -91,15 +91,15 @@ module _ (p : Plate) (ls : List ℕ) (same : p .layers ≡ ls) (ds : List Float)
 
   -- the same leads after ws
   led-number : (ws : List Waiting) (o : Option Waiting) → All Kept ws → LeadKept o →
-      leadNumber (foldl byRules o ws) ≡ foldl byNumbers (leadNumber o) (map numberOf ws)
+      leadNumber (foldl byRules o ws) ≡ foldl byNumbers (leadNumber o) (map waitingNumber ws)
   led-number [] o a b = refl
   led-number (w ∷ ws) o a b =
-      led-number ws (byRules o w) (a .1) (lead-kept o w b (a .0)) ∙ ap (λ (i : Option ℕ). foldl byNumbers i (map numberOf ws)) (lead-number o w b (a .0))
+      led-number ws (byRules o w) (a .1) (lead-kept o w b (a .0)) ∙ ap (λ (i : Option ℕ). foldl byNumbers i (map waitingNumber ws)) (lead-number o w b (a .0))
 
-  choose-number : (ws : List Waiting) → All Kept ws → leadNumber (choose p ws) ≡ foremost (layerBy ls) (closerBy ds) (map numberOf ws)
+  choose-number : (ws : List Waiting) → All Kept ws → leadNumber (choose p ws) ≡ foremost (layerBy ls) (closerBy ds) (map waitingNumber ws)
   unfolding choose
   choose-number ws a =
-      ap leadNumber (foremost-is (waitingLayer p) closer ws) ∙ led-number ws none a tt ∙ sym (foremost-is (layerBy ls) (closerBy ds) (map numberOf ws))
+      ap leadNumber (foremost-is (waitingLayer p) closer ws) ∙ led-number ws none a tt ∙ sym (foremost-is (layerBy ls) (closerBy ds) (map waitingNumber ws))
 
 -- ---- as the slices have it
 
@@ -115,21 +115,21 @@ module _ (lay : Layout) (ls : List ℕ) (ds : List Float) (w : List ℕ) (r : �
   module _ (p : Plate) (xs : List Float) (g : SpatialGrid) (ws : List Waiting) (same : p .layers ≡ ls) (lined : Lined (from w (lay .waiting)) (lay .contours) ws)
       (held : All (Holds xs g lay ds w) ws) where
     leader-is : leaderOf (lay .contours) r ≡ leadNumber (choose p ws)
-    unfolding Lined numberOf
+    unfolding Lined waitingNumber
     leader-is = led ∙ ap (foremost (layerBy ls) (closerBy ds)) (sym lined) ∙ sym (choose-number p ls same ds ws (all-give _ _ (λ c h. h .squared) ws held))
 
     pub none-chosen : r ≡ lay .contours → choose p ws ≡ none
-    none-chosen e = map-eq-none-iff numberOf (choose p ws) .0 (sym leader-is ∙ leader-none (lay .contours) r e)
+    none-chosen e = map-eq-none-iff waitingNumber (choose p ws) .0 (sym leader-is ∙ leader-none (lay .contours) r e)
 
-    one-chosen : (r ≡ lay .contours → ⊥) → (c : Waiting) × (choose p ws ≡ some c) × (numberOf c ≡ r)
-    one-chosen d = map-eq-some-iff numberOf (choose p ws) .0 (sym leader-is ∙ leader-some (lay .contours) r d)
+    one-chosen : (r ≡ lay .contours → ⊥) → (c : Waiting) × (choose p ws ≡ some c) × (waitingNumber c ≡ r)
+    one-chosen d = map-eq-some-iff waitingNumber (choose p ws) .0 (sym leader-is ∙ leader-some (lay .contours) r d)
 
     pub candidate-chosen : (r ≡ lay .contours → ⊥) →
         Picks
         (Candidate (record { number = r; first = record { 0 = from w (lay .firsts) r }; last = from w (lay .waiting) r - 1 })
         (record { 0 = from w (lay .entries) r }))
         (choose p ws)
-    unfolding choose numberOf contourOf
+    unfolding choose waitingNumber contourOf
     candidate-chosen d =
         let o = one-chosen d in
         let c = o .0 in

@@ -5,7 +5,7 @@ use Prim.Native.Nat.{ℕ, zero, suc}
 use lib.Dec.{eqb}
 use Rattle.rules.specs.Tools.{pick}
 use Rattle.rules.specs.SamplesAndCache.{Waiting}
-use Rattle.rules.specs.RetraceAndMarks.{numberOf}
+use Rattle.rules.specs.RetraceAndMarks.{waitingNumber}
 
 -- those of the n contours from j on that wait, in order; contour i waits where `waits i` is not 0
 unfoldable pub waitersFrom : (ℕ → ℕ) → ℕ → ℕ → List ℕ
@@ -14,4 +14,4 @@ waitersFrom waits j (suc n) = let rest = waitersFrom waits (suc j) n in pick (eq
 
 -- ws are exactly those of n contours that wait, in order
 unfoldable pub Lined : (ℕ → ℕ) → ℕ → List Waiting → Type 0
-Lined waits n ws = map numberOf ws ≡ waitersFrom waits 0 n
+Lined waits n ws = map waitingNumber ws ≡ waitersFrom waits 0 n

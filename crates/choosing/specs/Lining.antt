@@ -12,7 +12,7 @@ use borrow.Author.Tests.{eq-eqb, ne-eqb}
 use Rattle.rules.specs.Tools.{pick, without}
 use Rattle.rules.specs.HandedOver.{Plate, contoursFrom}
 use Rattle.rules.specs.SamplesAndCache.{Waiting, waiting}
-use Rattle.rules.specs.RetraceAndMarks.{numberOf}
+use Rattle.rules.specs.RetraceAndMarks.{waitingNumber}
 use Rattle.rules.specs.declared.SpatialGrid.{SpatialGrid}
 use Rattle.path.specs.Lists.{All, map-without}
 use Rattle.choosing.specs.Lined.{waitersFrom, Lined}
@@ -53,12 +53,12 @@ waiters-few waits j (suc n) = go (eqb (waits j) 0) (waiters-few waits (suc j) n)
 
 pub lined-few : (waits : ℕ → ℕ) (n : ℕ) (ws : List Waiting) → Lined waits n ws → length ws ≤ n
 unfolding Lined
-lined-few waits n ws l = omega (arith, length-map ws numberOf, ap length l, waiters-few waits 0 n)
+lined-few waits n ws l = omega (arith, length-map ws waitingNumber, ap length l, waiters-few waits 0 n)
 
 -- ---- caches change
 
-map-numbers : (f : Waiting → Waiting) → ((w : Waiting) → f w .contour ≡ w .contour) → (ws : List Waiting) → map numberOf (map f ws) ≡ map numberOf ws
-unfolding numberOf
+map-numbers : (f : Waiting → Waiting) → ((w : Waiting) → f w .contour ≡ w .contour) → (ws : List Waiting) → map waitingNumber (map f ws) ≡ map waitingNumber ws
+unfolding waitingNumber
 map-numbers f h [] = refl
 map-numbers f h (w ∷ ws) = rw (h w, map-numbers f h ws)
 
@@ -102,20 +102,20 @@ module _ (waits waits′ : ℕ → ℕ) (k : ℕ) (gone : waits′ k ≡ 0) wher
           ∙ sym (waiters-take waits′ j n (λ e. d (sym (h j (omega arith) q) ∙ e)))
 
   pub lined-without : (n : ℕ) (ws : List Waiting) → ((i : ℕ) → i < n → (i ≡ k → ⊥) → waits′ i ≡ waits i) → Lined waits n ws →
-      Lined waits′ n (without numberOf k ws)
+      Lined waits′ n (without waitingNumber k ws)
   unfolding Lined
-  lined-without n ws h l = map-without numberOf itself k ws ∙ ap (without itself k) l ∙ waiters-without 0 n (λ i m d. h i (omega arith) d)
+  lined-without n ws h l = map-without waitingNumber itself k ws ∙ ap (without itself k) l ∙ waiters-without 0 n (λ i m d. h i (omega arith) d)
 
 -- those that are left have other numbers
-pub without-differs : (k : ℕ) (ws : List Waiting) → All (λ w. w .contour .number ≡ k → ⊥) (without numberOf k ws)
-unfolding without numberOf
+pub without-differs : (k : ℕ) (ws : List Waiting) → All (λ w. w .contour .number ≡ k → ⊥) (without waitingNumber k ws)
+unfolding without waitingNumber
 without-differs k [] = tt
-without-differs k (w ∷ ws) = go (ℕ-discrete (numberOf w) k) (without-differs k ws)
+without-differs k (w ∷ ws) = go (ℕ-discrete (waitingNumber w) k) (without-differs k ws)
   where
-    go : Dec (numberOf w ≡ k) → All (λ w. w .contour .number ≡ k → ⊥) (without numberOf k ws) →
-        All (λ w. w .contour .number ≡ k → ⊥) (without numberOf k (w ∷ ws))
-    go (yes e) a = rw (without-it numberOf k w ws e) a
-    go (no d) a = rw (without-other numberOf k w ws d) (d, a)
+    go : Dec (waitingNumber w ≡ k) → All (λ w. w .contour .number ≡ k → ⊥) (without waitingNumber k ws) →
+        All (λ w. w .contour .number ≡ k → ⊥) (without waitingNumber k (w ∷ ws))
+    go (yes e) a = rw (without-it waitingNumber k w ws e) a
+    go (no d) a = rw (without-other waitingNumber k w ws d) (d, a)
 
 -- ---- before the start
 
@@ -130,8 +130,8 @@ module _ (p : Plate) (g : SpatialGrid) (waits : ℕ → ℕ) where
   sized-tail : (j n : ℕ) (ns : List ℕ) → Sized j (n ∷ ns) → Sized (suc j) ns
   sized-tail j n ns h i l = let e : suc j + i ≡ j + suc i = omega arith in ap waits e ∙ h (suc i) (omega arith)
 
-  numbers-from : (j v : ℕ) (ns : List ℕ) → Sized j ns → map numberOf (map (waiting p g) (contoursFrom j v ns)) ≡ waitersFrom waits j (length ns)
-  unfolding contoursFrom waitersFrom waiting numberOf
+  numbers-from : (j v : ℕ) (ns : List ℕ) → Sized j ns → map waitingNumber (map (waiting p g) (contoursFrom j v ns)) ≡ waitersFrom waits j (length ns)
+  unfolding contoursFrom waitersFrom waiting waitingNumber
   numbers-from j v [] h = refl
   numbers-from j v (zero ∷ ns) h =
       numbers-from (suc j) v ns (sized-tail j zero ns h) ∙ sym (waiters-skip waits j (length ns) (sized-head j zero ns h))

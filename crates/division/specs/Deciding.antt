@@ -3,7 +3,7 @@
 use mathlib.Core.Path.{_≡_, refl, ap, _∙_, subst}
 use mathlib.Core.Logic.{_⊎_, inl, inr}
 use mathlib.Core.Bool.{Bool, true, false, not, _&&_, _||_}
-use mathlib.Core.List.{List}
+use mathlib.Core.List.{List, [], _∷_}
 use Prim.Native.Nat.{ℕ, zero, suc, _+_, _*_, _≤_, _<_}
 use native.Mathlib.Decide.{decLe}
 use native.Mathlib.Omega.{arith}
@@ -11,12 +11,12 @@ use lib.Dec.{T, ltb, eqb}
 use lib.Ieee.{Float}
 use lib.ListN.{length}
 use Rattle.rules.specs.Tools.{firstFailing, upFrom, every}
-use Rattle.rules.specs.HandedOver.{Contour, at, Answer, refuses, refuseIf}
+use Rattle.rules.specs.HandedOver.{Contour, at, Answer, refuses, RefusalRow, refusedBy}
 use Rattle.rules.specs.RetraceAndMarks.{cutKind, backStepKind, countMarks}
 use Rattle.rules.specs.PathStatement.{Among, Of, kindAt, referenceAt, cutsOf, Landing, JumpOrTouch, PairOf}
-use Rattle.rules.specs.PathCheck.{enters, isOf, entriesOf, marksBefore, Unentered, FirstCut, RulesAt, DividesByPoints, keepsRules, complete, drawn, LeftOut, FirstFault}
+use Rattle.rules.specs.PathCheck.{enters, isOf, entriesOf, marksBefore, Unentered, FirstCut, RulesAt, DividesByPoints, keepsRules, complete, notDrawn, LeftOut, FirstFault}
 use Rattle.rules.specs.declared.Point.{Point}
-use Rattle.path.specs.Accepted.{Other, refuse-other, refuse-tells}
+use Rattle.path.specs.Rows.{Other, rows-other, row-tells, row-passes, row-refuses}
 use Rattle.path.specs.Contours.{Rising, one-of}
 use Rattle.division.specs.Says.{Says, says-by, says-and, says-or, says-not-and, says-eqb, says-ltb, says-zero, says-not-every, says-not-run}
 use Rattle.division.specs.MarkCounts.{count-first, count-all}
@@ -42,19 +42,6 @@ pub entry-lands : {A : Type 0} (cs : List Contour) (x : ℕ → Point) (u v : �
 entry-lands cs x u v Fresh k kind r (inl (e, y)) t = absurd (no-entry kind (inl e) t)
 entry-lands cs x u v Fresh k kind r (inr (inl (e, y))) t = absurd (no-entry kind (inr e) t)
 entry-lands cs x u v Fresh k kind r (inr (inr (j, y))) t = y
-
--- ---- a condition, by its test
-
--- it fails; it passes; and what an answer with the condition's number tells
-refuse-none : {A : Type 0} (t : Bool) (number place : ℕ) (later : Answer A) → (T t → ⊥) → refuseIf t number place later ≡ later
-unfolding refuseIf
-refuse-none true number place later h = absurd (h tt)
-refuse-none false number place later h = refl
-
-refuse-all : {A : Type 0} (t : Bool) (number place : ℕ) (later : Answer A) → T t → refuseIf t number place later ≡ refuses number place
-unfolding refuseIf
-refuse-all true number place later h = refl
-refuse-all false number place later h = absurd h
 
 -- ---- one path point
 
@@ -186,32 +173,35 @@ module _ (cs : List Contour) (rising : Rising cs) (xs : List Float) (n : ℕ) (p
   says-refusing : Says refusing ((place < n) ⊎ LeftOut cs ms)
   says-refusing = says-or _ _ _ _ (says-ltb place n) (says-left-out cs ms)
 
+  abbrev rows : List RefusalRow
+  rows = notDrawn cs xs n path ms ∷ []
+
   -- what it lets pass divides by points, and it lets pass all that does
-  pub drawn-divides : {A : Type 0} (later b : Answer A) → Other 12 b → (length path ≡ 2 * n) × (length ms ≡ 2 * n) → drawn cs xs n path ms later ≡ b →
+  pub drawn-divides : {A : Type 0} (later b : Answer A) → Other 12 b → (length path ≡ 2 * n) × (length ms ≡ 2 * n) → refusedBy rows later ≡ b →
       DividesByPoints cs xs n path ms × (later ≡ b)
-  unfolding drawn
+  unfolding notDrawn
   drawn-divides later b o whole e =
-      let (t, e1) = refuse-other refusing 12 place later b o e in
-      let never : (place < n) ⊎ LeftOut cs ms → ⊥ = λ x. subst (λ (y : Bool). T y) t (says-refusing .told x) in
+      let (t, e1) = rows-other rows later b (o, tt) e in
+      let never : (place < n) ⊎ LeftOut cs ms → ⊥ = λ x. subst (λ (y : Bool). T y) (t .0) (says-refusing .told x) in
       let all : place < n → ⊥ = λ x. never (inl x) in
       let before = first-failing keeps 0 n .before in
       (rules-divide whole (λ i l. says-rules cs rising xs path ms i .tells (before i (omega arith) (omega arith))) (λ x. never (inr x)), e1)
 
-  pub divides-drawn : {A : Type 0} → DividesByPoints cs xs n path ms → (later : Answer A) → drawn cs xs n path ms later ≡ later
-  unfolding drawn
+  pub divides-drawn : {A : Type 0} → DividesByPoints cs xs n path ms → (later : Answer A) → refusedBy rows later ≡ later
+  unfolding notDrawn
   divides-drawn d later =
       let all = none-failing keeps 0 n (λ i l h. says-rules cs rising xs path ms i .told (d .rules i (omega arith))) in
-      refuse-none refusing 12 place later (λ t. never all (says-refusing .tells t))
+      row-passes (notDrawn cs xs n path ms) later (λ t. never all (says-refusing .tells t))
     where
       never : place ≡ 0 + n → (place < n) ⊎ LeftOut cs ms → ⊥
       never e (inl x) = omega arith
       never e (inr x) = divides-nothing d x
 
   -- its place is the first fault, and it refuses wherever there is one
-  pub drawn-fault : {A : Type 0} (later : Answer A) → Other 12 later → (i : ℕ) → drawn cs xs n path ms later ≡ refuses 12 i → FirstFault cs xs n path ms i
-  unfolding drawn FirstFault
+  pub drawn-fault : {A : Type 0} (later : Answer A) → Other 12 later → (i : ℕ) → refusedBy rows later ≡ refuses 12 i → FirstFault cs xs n path ms i
+  unfolding notDrawn FirstFault
   drawn-fault later o i e =
-      let (t, s) = refuse-tells refusing 12 place later o i e in
+      let (t, s) = row-tells (notDrawn cs xs n path ms) later i o e in
       subst (FirstFault cs xs n path ms) s
       (λ j l. says-rules cs rising xs path ms j .tells (f .before j (omega arith) l), go (decLe n place) (says-refusing .tells t))
     where
@@ -223,11 +213,11 @@ module _ (cs : List Contour) (rising : Rising cs) (xs : List Float) (n : ℕ) (p
       go (yes x) (inr y) = inr (omega (arith, f .within), y)
       go (no x) y = inl (omega (arith, x), λ r. f .fails (omega (arith, x)) (says-rules cs rising xs path ms place .told r))
 
-  pub fault-drawn : {A : Type 0} (i : ℕ) → FirstFault cs xs n path ms i → (later : Answer A) → drawn cs xs n path ms later ≡ refuses 12 i
-  unfolding drawn FirstFault
+  pub fault-drawn : {A : Type 0} (i : ℕ) → FirstFault cs xs n path ms i → (later : Answer A) → refusedBy rows later ≡ refuses 12 i
+  unfolding notDrawn FirstFault
   fault-drawn i (rules, fault) later =
       let e = first-only keeps 0 n place i (first-failing keeps 0 n) (go fault) in
-      refuse-all refusing 12 place later (says-refusing .told (hits e fault)) ∙ ap (refuses 12) e
+      row-refuses (notDrawn cs xs n path ms) later (says-refusing .told (hits e fault)) ∙ ap (refuses 12) e
     where
       passes : (j : ℕ) → 0 ≤ j → j < i → T (keepsRules cs xs path ms j)
       passes j l h = says-rules cs rising xs path ms j .told (rules j h)

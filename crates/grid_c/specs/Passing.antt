@@ -9,11 +9,11 @@ use lib.Ieee.{Float}
 use lib.ListN.{length}
 use borrow.Author.Tests.{ltb-true, leb-true}
 use Rattle.rules.specs.Tools.{sum}
-use Rattle.rules.specs.HandedOver.{Answer, gives, refuses, refusal, checkedContours}
+use Rattle.rules.specs.HandedOver.{Answer, gives, refuses, refusal, refusedBy, contourRows}
 use Rattle.rules.specs.Box.{box}
 use Rattle.rules.specs.declared.Refusal.{Refusal}
+use Rattle.path.specs.Rows.{not-given}
 use Rattle.path.specs.Accepted.{Accepted, contours-gives}
-use Rattle.plate.specs.Refused.{not-given}
 use Rattle.bounds.specs.Boxes.{Sound, accepted-sound}
 use Rattle.grid_c.specs.Results.{given, accepted, hasRoom, hasQueryRoom}
 
@@ -27,9 +27,9 @@ pub record Gridded (xs : List Float) (ns : List ℕ) (n : ℕ) : Type 0 where
 
 pub gridded : (xs : List Float) (ns : List ℕ) (n : ℕ) → n ≡ accepted xs ns → 0 < n → Gridded xs ns n
 unfolding accepted given
-gridded xs ns n h l = go (checkedContours xs ns (gives (sum ns))) refl h
+gridded xs ns n h l = go (refusedBy (contourRows xs ns) (gives (sum ns))) refl h
   where
-    go : (a : Answer ℕ) → checkedContours xs ns (gives (sum ns)) ≡ a → n ≡ given a → Gridded xs ns n
+    go : (a : Answer ℕ) → refusedBy (contourRows xs ns) (gives (sum ns)) ≡ a → n ≡ given a → Gridded xs ns n
     go (gives m) e f =
         let passed = contours-gives xs ns (gives (sum ns)) m e in
         let total : sum ns ≡ m = ap given (passed .1) in

@@ -6,7 +6,7 @@ use lib.Dec.{ltb, leb}
 use lib.IntN.{pos}
 use lib.Ieee.{Float, fin}
 use Rattle.rules.specs.Tools.{sum, upFrom}
-use Rattle.rules.specs.HandedOver.{at, Answer, gives, refuses, checkedContours, over}
+use Rattle.rules.specs.HandedOver.{at, Answer, gives, refuses, refusedBy, contourRows, over}
 use Rattle.rules.specs.SamplesAndCache.{askPath}
 use Rattle.rules.specs.declared.Nearest.{Nearest}
 use Rattle.rules.specs.declared.Nearest.the-variants.{Found, Nothing}
@@ -22,7 +22,7 @@ given (gives n) = n
 given (refuses number place) = 0
 
 unfoldable pub accepted : List Float → List ℕ → ℕ
-accepted xs ns = given (checkedContours xs ns (gives (sum ns)))
+accepted xs ns = given (refusedBy (contourRows xs ns) (gives (sum ns)))
 
 -- ---- the grid
 

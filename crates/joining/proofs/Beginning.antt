@@ -8,7 +8,7 @@ use lib.ListN.{length, getD, set}
 use Rattle.rules.specs.Tools.{sum, without}
 use Rattle.rules.specs.HandedOver.{Plate, contours, contoursFrom}
 use Rattle.rules.specs.SamplesAndCache.{waiting}
-use Rattle.rules.specs.RetraceAndMarks.{numberOf}
+use Rattle.rules.specs.RetraceAndMarks.{waitingNumber}
 use Rattle.rules.specs.declared.SpatialGrid.{SpatialGrid}
 use Rattle.path.specs.Accepted.{Accepted}
 use Rattle.path.specs.Lists.{All, all-map}
@@ -78,5 +78,5 @@ module _ (xs : List Float) (lengths : List ℕ) (g : SpatialGrid) (lay : Layout)
   pub begin-flags : (k : ℕ) → k < lay .cells → from left (lay .flags) k ≡ 0
   begin-flags k m = left-flag xs g lay ds w′ xs 0 number (querying xs) l k m ∙ flags k m
 
-  pub begin-lines : (p : Plate) → p .points ≡ xs → p .lengths ≡ lengths → Lines xs g lay ds left (without numberOf number (map (waiting p g) (contours p)))
+  pub begin-lines : (p : Plate) → p .points ≡ xs → p .lengths ≡ lengths → Lines xs g lay ds left (without waitingNumber number (map (waiting p g) (contours p)))
   begin-lines p e f = left-lines xs g lay ds w′ xs 0 number (querying xs) l (map (waiting p g) (contours p)) (all-lines p e f)

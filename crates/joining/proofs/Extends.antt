@@ -7,7 +7,7 @@ use Rattle.rules.specs.Tools.{without}
 use Rattle.rules.specs.HandedOver.{Plate, vertexAt}
 use Rattle.rules.specs.GridAndNearest.{nearest}
 use Rattle.rules.specs.SamplesAndCache.{Waiting, update, cellsAround}
-use Rattle.rules.specs.RetraceAndMarks.{Step, pathPoints, placeIn, walkBack, choose, numberOf, entered, joinAll}
+use Rattle.rules.specs.RetraceAndMarks.{Step, pathPoints, placeIn, walkBack, choose, waitingNumber, entered, joinAll}
 use Rattle.rules.specs.declared.SpatialGrid.{SpatialGrid}
 
 -- more is the path with something behind it
@@ -26,7 +26,7 @@ entered-begins p g path w =
 -- the contours that wait after w has entered
 abbrev pub waitingAfter : Plate → SpatialGrid → List Waiting → List Step → Waiting → List Waiting
 waitingAfter p g ws path w =
-    map (update p g (pathPoints p (entered p g path w)) (cellsAround (vertexAt p (w .contour)) g (w .contour .last))) (without numberOf (numberOf w) ws)
+    map (update p g (pathPoints p (entered p g path w)) (cellsAround (vertexAt p (w .contour)) g (w .contour .last))) (without waitingNumber (waitingNumber w) ws)
 
 pub join-some : (p : Plate) (g : SpatialGrid) (n : ℕ) (ws : List Waiting) (path : List Step) (w : Waiting) → choose p ws ≡ some w →
     joinAll p g (suc n) ws path ≡ joinAll p g n (waitingAfter p g ws path w) (entered p g path w)

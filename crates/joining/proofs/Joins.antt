@@ -9,7 +9,7 @@ use lib.ListN.{length, length-map, length-append}
 use Rattle.rules.specs.Tools.{without}
 use Rattle.rules.specs.HandedOver.{Plate, Contour, vertexAt}
 use Rattle.rules.specs.SamplesAndCache.{Waiting, update, cellsAround}
-use Rattle.rules.specs.RetraceAndMarks.{Step, pathPoints, closer, waitingLayer, choose, numberOf, entered, joinAll}
+use Rattle.rules.specs.RetraceAndMarks.{Step, pathPoints, closer, waitingLayer, choose, waitingNumber, entered, joinAll}
 use Rattle.rules.specs.PathStatement.{Among}
 use Rattle.rules.specs.declared.SpatialGrid.{SpatialGrid}
 use Rattle.path.specs.Lists.{map-all, all-without}
@@ -76,10 +76,10 @@ module _ (p : Plate) (g : SpatialGrid) (lay : Layout) (room turn count : ℕ) (p
         (map-all (λ c. Among c (map joining.contourOf ws)) joining.contourOf ws (among-all _ (map joining.contourOf ws) (λ c m. m))) w chosen
 
     contours-after : map joining.contourOf after ≡ others (w .contour) (map joining.contourOf ws)
-    unfolding numberOf
+    unfolding waitingNumber
     contours-after =
-        contours-cached (update p g (pathPoints p next) cells) (update-caching p g (pathPoints p next) cells) (without numberOf (numberOf w) ws)
-        ∙ contours-without (numberOf w) ws
+        contours-cached (update p g (pathPoints p next) cells) (update-caching p g (pathPoints p next) cells) (without waitingNumber (waitingNumber w) ws)
+        ∙ contours-without (waitingNumber w) ws
 
     pub one-less : length ws ≡ suc (length after)
     one-less =
@@ -119,13 +119,13 @@ module _ (p : Plate) (g : SpatialGrid) (lay : Layout) (room turn count : ℕ) (p
           (flags : (f : ℕ) → f < lay .cells → from work″ (lay .flags) f ≤ turn + 1) (same″ : length work″ ≡ length work′)
           (lines : Lines (p .points) g lay ds work′ ws →
           Lines (p .points) g lay ds″ work″
-          (map (update p g (points path′ k) (cellsAround (vertexAt p (contourOf c)) g (c .last))) (without numberOf (c .number) ws))) where
+          (map (update p g (points path′ k) (cellsAround (vertexAt p (contourOf c)) g (c .last))) (without waitingNumber (c .number) ws))) where
         lines-after : Lines (p .points) g lay ds″ work″ after
-        unfolding contourOf numberOf
+        unfolding contourOf waitingNumber
         lines-after =
             rw (seen fits)
             at (subst
-            (λ (z : Contour). Lines (p .points) g lay ds″ work″ (map (update p g (points path′ k) (cellsAround (vertexAt p z) g (z .last))) (without numberOf (z .number) ws)))
+            (λ (z : Contour). Lines (p .points) g lay ds″ work″ (map (update p g (points path′ k) (cellsAround (vertexAt p z) g (z .last))) (without waitingNumber (z .number) ws)))
             (e .contour) (lines (drawn-lines k path′ ms′ work′ pen kept same)))
 
         pen-after : Pen g room k path′ ms′ work″
@@ -150,7 +150,7 @@ module _ (p : Plate) (g : SpatialGrid) (lay : Layout) (room turn count : ℕ) (p
               some = next-some;
               apart = j .apart;
               lines = lines-after;
-              sane = sane-cached f (update-caching p g (pathPoints p next) cells) (without numberOf (numberOf w) ws) (all-without Sane numberOf (numberOf w) ws (j .sane));
+              sane = sane-cached f (update-caching p g (pathPoints p next) cells) (without waitingNumber (waitingNumber w) ws) (all-without Sane waitingNumber (waitingNumber w) ws (j .sane));
               coming = rw contours-after (coming-without p (w .contour .number) (map joining.contourOf ws) (j .coming));
               turns = omega (arith, one-less, j .turns);
               flags = flags;

@@ -9,7 +9,7 @@ use lib.ListN.{length}
 use Rattle.rules.specs.Tools.{without}
 use Rattle.rules.specs.HandedOver.{Plate, Contour, vertexAt}
 use Rattle.rules.specs.SamplesAndCache.{Waiting, update, cellsAround}
-use Rattle.rules.specs.RetraceAndMarks.{Step, choose, numberOf, entered, joinAll}
+use Rattle.rules.specs.RetraceAndMarks.{Step, choose, waitingNumber, entered, joinAll}
 use Rattle.rules.specs.declared.SpatialGrid.{SpatialGrid}
 use Rattle.path.specs.Lists.{All}
 use Rattle.path.specs.FiniteDistances.{OnPlate}
@@ -162,10 +162,10 @@ module _ (xs : List Float) (ls : List ℕ) (g : SpatialGrid) (lay : Layout) (roo
           (flags : (f : ℕ) → f < lay .cells → from work‴ (lay .flags) f ≤ turn + 1)
           (settled : (p : Plate) (ws : List Waiting) → p .points ≡ xs → Lines xs g lay ds′ work″ ws →
           Lines xs g lay ds‴ work‴
-          (map (update p g (points path″ k″) (cellsAround (vertexAt p (contourOf c)) g (c .last))) (without numberOf (c .number) ws))) where
+          (map (update p g (points path″ k″) (cellsAround (vertexAt p (contourOf c)) g (c .last))) (without waitingNumber (c .number) ws))) where
         settledOf : Plate → List Waiting → List Waiting
         settledOf p ws =
-            map (update p g (points path″ k″) (cellsAround (vertexAt p (contourOf c)) g (c .last))) (without numberOf (c .number) ws)
+            map (update p g (points path″ k″) (cellsAround (vertexAt p (contourOf c)) g (c .last))) (without waitingNumber (c .number) ws)
 
         next-joining : (p : Plate) (ws : List Waiting) (steps : List Step) (was : List Float) (marked : List ℕ) → p .points ≡ xs →
             (j : Joining p g lay room turn k path′ ms′ work′ ds′ ws steps was marked) (w : Waiting) → choose p ws ≡ some w → Enters c (v .0) w →

@@ -9,7 +9,7 @@ use lib.Seq.{getD-set-same, getD-set-other}
 use Rattle.rules.specs.Tools.{without}
 use Rattle.rules.specs.HandedOver.{Plate}
 use Rattle.rules.specs.SamplesAndCache.{Waiting}
-use Rattle.rules.specs.RetraceAndMarks.{numberOf}
+use Rattle.rules.specs.RetraceAndMarks.{waitingNumber}
 use Rattle.rules.specs.declared.SpatialGrid.{SpatialGrid}
 use Rattle.path.specs.Lists.{all-give, all-both, all-without}
 use Rattle.layout.specs.Laid.{Laid}
@@ -48,29 +48,29 @@ module _ (xs : List Float) (g : SpatialGrid) (lay : Layout) (ds : List Float) (w
         apart = q .apart;
       }
 
-  pub left-lines : (ws : List Waiting) → Lines xs g lay ds w ws → Lines xs g lay ds left (without numberOf j ws)
+  pub left-lines : (ws : List Waiting) → Lines xs g lay ds w ws → Lines xs g lay ds left (without waitingNumber j ws)
   left-lines ws h =
       record {
         lined =
             lined-without (from w (lay .waiting)) (from left (lay .waiting)) j (getD-set-same w (lay .waiting + j) 0 0 (omega (arith, laid)))
             (lay .contours) ws (λ i m d. other (lay .waiting + i) (λ e. d (omega arith))) (h .lined);
         held =
-            all-give _ _ (λ c z. holds-left xs g lay ds w laid j l c (z .1) (z .0)) (without numberOf j ws)
-            (all-both _ _ (without numberOf j ws) (all-without (Holds xs g lay ds w) numberOf j ws (h .held)) (without-differs j ws));
+            all-give _ _ (λ c z. holds-left xs g lay ds w laid j l c (z .1) (z .0)) (without waitingNumber j ws)
+            (all-both _ _ (without waitingNumber j ws) (all-without (Holds xs g lay ds w) waitingNumber j ws (h .held)) (without-differs j ws));
       }
 
   -- the update
   module _ (ds′ : List Float) (w′ : List ℕ) (f : Plate → Waiting → Waiting) (contour : (p : Plate) (c : Waiting) → f p c .contour ≡ c .contour)
       (changed : Changed xs g lay ds left ds′ w′ f) (above : KeptFrom (lay .heads) left w′) where
-    pub settled-lines : (p : Plate) (ws : List Waiting) → p .points ≡ xs → Lines xs g lay ds w ws → Lines xs g lay ds′ w′ (map (f p) (without numberOf j ws))
+    pub settled-lines : (p : Plate) (ws : List Waiting) → p .points ≡ xs → Lines xs g lay ds w ws → Lines xs g lay ds′ w′ (map (f p) (without waitingNumber j ws))
     settled-lines p ws e h =
         let k = left-lines ws h in
         record {
           lined =
-              lined-map (from w′ (lay .waiting)) (lay .contours) (f p) (without numberOf j ws) (contour p)
-              (lined-same (from left (lay .waiting)) (from w′ (lay .waiting)) (lay .contours) (without numberOf j ws)
+              lined-map (from w′ (lay .waiting)) (lay .contours) (f p) (without waitingNumber j ws) (contour p)
+              (lined-same (from left (lay .waiting)) (from w′ (lay .waiting)) (lay .contours) (without waitingNumber j ws)
               (λ i m. above (lay .waiting + i) (omega (arith, laid))) (k .lined));
-          held = changed-all xs g lay ds left ds′ w′ f changed p e (without numberOf j ws) (k .held);
+          held = changed-all xs g lay ds left ds′ w′ f changed p e (without waitingNumber j ws) (k .held);
         }
 
     pub settled-prepared : length ds′ ≡ length ds → length w′ ≡ length left → Prepared xs g lay ds′ w′

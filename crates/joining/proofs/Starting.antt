@@ -11,7 +11,7 @@ use Rattle.rules.specs.Tools.{pick, without}
 use Rattle.rules.specs.HandedOver.{Plate, contours}
 use Rattle.rules.specs.Start.{Oriented}
 use Rattle.rules.specs.SamplesAndCache.{Waiting, waiting, seed}
-use Rattle.rules.specs.RetraceAndMarks.{startKind, forward, backward, bothWays, emit, entryOf, begin, pathPoints, numberOf, joinAll, retraceFrom}
+use Rattle.rules.specs.RetraceAndMarks.{startKind, forward, backward, bothWays, emit, entryOf, begin, pathPoints, waitingNumber, joinAll, retraceFrom}
 use Rattle.rules.specs.OrderAndStraight.{contourNumber}
 use Rattle.rules.specs.declared.Point.{Point}
 use Rattle.rules.specs.declared.SpatialGrid.{SpatialGrid}
@@ -42,7 +42,7 @@ use Rattle.joining.proofs.Keeping.{prepared-still, lines-still, flags-s
 
 -- those that wait when s leads
 abbrev pub waitingFirst : Plate → SpatialGrid → Oriented → List Waiting
-waitingFirst p g s = without numberOf (s .contour .number) (map (waiting p g) (contours p))
+waitingFirst p g s = without waitingNumber (s .contour .number) (map (waiting p g) (contours p))
 
 -- with their caches seeded by the start
 abbrev pub seededFirst : Plate → SpatialGrid → Oriented → List Waiting
@@ -156,7 +156,7 @@ module _ (xs : List Float) (p : Plate) (g : SpatialGrid) (lay : Layout) (room : 
           lines = own (λ ys. Lines ys g lay ds″ work″ (seededFirst p g s)) seeded-lines;
           sane =
               sane-cached (seed p g (pathPoints p (begin s))) (seed-caching p g (pathPoints p (begin s))) (waitingFirst p g s)
-              (all-without Sane numberOf (s .contour .number) (map (waiting p g) (contours p))
+              (all-without Sane waitingNumber (s .contour .number) (map (waiting p g) (contours p))
               (all-map Sane (waiting p g) (contours p) (all-of _ (waiting-sane p g) (contours p))));
           coming = rw seeded-contours (coming-without p (s .contour .number) (contours p) (record { all = all-contours p; rising = contours-rise p }));
           turns = omega (arith, lined-few (from work″ (lay .waiting)) (lay .contours) (seededFirst p g s) (seeded-lines .lined));

@@ -6,7 +6,7 @@ ghost use lib.ListN.{length};
 ghost use Rattle.rules.specs.Tools.{sum, without};
 ghost use Rattle.rules.specs.HandedOver.{Plate, plate, contours, vertexAt};
 ghost use Rattle.rules.specs.SamplesAndCache.{Waiting, waiting, update, cellsAround};
-ghost use Rattle.rules.specs.RetraceAndMarks.{placeIn, numberOf, entered, retraceFrom, retrace};
+ghost use Rattle.rules.specs.RetraceAndMarks.{placeIn, waitingNumber, entered, retraceFrom, retrace};
 ghost use Rattle.path.specs.Lists.{All};
 ghost use Rattle.path.specs.FiniteDistances.{OnPlate};
 ghost use Rattle.path.specs.Accepted.{Accepted};
@@ -133,7 +133,7 @@ fn settle(
         × ((p : Plate) (ws : List Waiting) → p .points ≡ now (points .entry) →
         Lines (now (points .entry)) g lay (now (distances .entry)) (now (work .entry)) ws →
         Lines (now (points .entry)) g lay (now (distances .exit)) (now (work .exit))
-        (map (update p g (history.points (now (path .entry)) count) (cellsAround (vertexAt p (contourOf c)) g (c .last))) (without numberOf (c .number) ws))) ⌝ }
+        (map (update p g (history.points (now (path .entry)) count) (cellsAround (vertexAt p (contourOf c)) g (c .last))) (without waitingNumber (c .number) ws))) ⌝ }
 {
     let a = lay.waiting + (c.number as usize);
     work[a] = 0;
@@ -170,7 +170,7 @@ fn set_up(
         × ((path : List Float) → Ready g path (now (work .exit)) 0)
         × ((k : ℕ) → k < lay .cells → from (now (work .exit)) (lay .flags) k ≡ 0)
         × ((p : Plate) → p .points ≡ now (points .entry) → p .lengths ≡ now (lengths .entry) →
-        Lines (now (points .entry)) g lay (now (distances .exit)) (now (work .exit)) (without numberOf number (map (waiting p g) (contours p))))
+        Lines (now (points .entry)) g lay (now (distances .exit)) (now (work .exit)) (without waitingNumber number (map (waiting p g) (contours p))))
         × (lay .contours ≡ length (now (lengths .entry))) ⌝ }
 {
     let cells = (g.cols as usize) * (g.rows as usize);

@@ -28,7 +28,7 @@ use Rattle.rules.specs.PathStatement.{kindAt, IsJumpOrTouch}
 use Rattle.rules.specs.HowNear.{LandingsNear, writtenPoints, AllF64, IsAccepted, HowNearByRules, HowNear}
 use Rattle.rules.specs.declared.Counts.{Counts}
 use Rattle.path.specs.Lists.{All, all-at, all-places}
-use Rattle.path.specs.Accepted.{Accepted, checked-gives, OfPlate, point-on}
+use Rattle.path.specs.Accepted.{Accepted, input-gives, OfPlate, point-on}
 use Rattle.path.specs.Start.{AllTakePart, layered-part}
 use Rattle.path.specs.Nearest.{gridFor}
 use Rattle.path.specs.Slices.{coordinates-length, marks-length, vertices-length, kind-at, coordinates-at, vertices-at}
@@ -89,7 +89,7 @@ module _ (p : Plate) (f64 : AllF64 (p .points)) (own : p .box ≡ box (p .points
 pub how-near-by-rules : HowNearByRules
 unfolding HowNearByRules IsAccepted
 how-near-by-rules p f64 own accepted =
-    let (sound, layered, same) = checked-gives (p .points) (p .lengths) (p .layers) _ tt accepted in
+    let (sound, layered, same) = input-gives (p .points) (p .lengths) (p .layers) _ tt accepted in
     landings-near p f64 own sound (layered-part p layered)
 
 -- ---- what a call has written

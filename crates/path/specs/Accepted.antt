@@ -1,7 +1,7 @@
 -- What a call has passed that gives a result, or another refusal than these: refusals 1 to 3, 13 and 4; and so the squared distances of the plate's points
 -- are finite, their signs plus. Assumes nothing.
-use mathlib.Core.Path.{_≡_, refl, sym, subst}
-use mathlib.Core.Bool.{Bool, true, false}
+use mathlib.Core.Path.{_≡_, refl, ap}
+use mathlib.Core.Bool.{Bool, true, false, not}
 use mathlib.Core.List.{List, [], _∷_}
 use Prim.Native.Nat.{ℕ, suc, _+_, _*_, _≤_, _<_}
 use native.Mathlib.Omega.{arith}
@@ -9,37 +9,14 @@ use lib.Dec.{T, leb}
 use lib.Ieee.{Float, nan}
 use lib.ListN.{length}
 use borrow.Author.Tests.{ltb-false, le-ltb, leb-true, eqb-true, eq-eqb, not-false}
-use Rattle.rules.specs.Tools.{pick, sum, highestLayer}
-use Rattle.rules.specs.HandedOver.{Plate, at, Answer, gives, refuses, inRange, plateLimit, firstOff, firstBad, refuseIf, counted, layered, onPlate, checkedContours, checked}
+use Rattle.rules.specs.Tools.{pick, sum, every, highestLayer}
+use Rattle.rules.specs.HandedOver.{Plate, at, Answer, gives, inRange, plateLimit, firstOff, firstBad, refusedBy}
+use Rattle.rules.specs.HandedOver.{tooManyContours, tooManyPoints, miscounted, badLayerCount, badLayer, outOfRange, offThePlate, contourRows, inputRows}
 use Rattle.rules.specs.Distances.{distanceSquared}
 use Rattle.path.specs.Lists.{All, all-at}
+use Rattle.path.specs.Rows.{Passed, OtherThan, Lacks, rows-other, given-other, rows-give}
 use Rattle.path.specs.FloatOrder.{Plus}
 use Rattle.path.specs.FiniteDistances.{OnPlate, distance-plus}
-
--- ---- refusals
-
--- an answer that is no refusal with this number
-abbrev pub Other : {A : Type 0} → ℕ → Answer A → Type 0
-Other number (gives a) = Unit {0}
-Other number (refuses n place) = n ≡ number → ⊥
-
--- a condition that did not refuse: the answer is another
-pub refuse-other : {A : Type 0} (t : Bool) (number place : ℕ) (later b : Answer A) → Other number b → refuseIf t number place later ≡ b →
-    (t ≡ false) × (later ≡ b)
-unfolding refuseIf
-refuse-other true number place later b o e = absurd (subst (Other number) (sym e) o refl)
-refuse-other false number place later b o e = (refl, e)
-
--- one that refused: what comes after it is no refusal with this number
-pub refuse-tells : {A : Type 0} (t : Bool) (number place : ℕ) (later : Answer A) → Other number later → (i : ℕ) →
-    refuseIf t number place later ≡ refuses number i → T t × (place ≡ i)
-unfolding refuseIf
-refuse-tells true number place later o i e = (tt, cc)
-refuse-tells false number place later o i e = absurd (subst (Other number) e o refl)
-
-pub refuse-gives : {A : Type 0} (t : Bool) (number place : ℕ) (later : Answer A) (c : A) → refuseIf t number place later ≡ gives c →
-    (t ≡ false) × (later ≡ gives c)
-refuse-gives t number place later c e = refuse-other t number place later (gives c) tt e
 
 -- where the first coordinate out of range is the place after the last, all are in range
 pub first-off : (limit : Float) (i : ℕ) (xs : List Float) → i + length xs ≤ firstOff limit i xs → All (λ x. T (inRange limit x)) xs
@@ -75,67 +52,53 @@ pub record Layered (m : ℕ) (ls : List ℕ) : Type 0 where
   pub counted : length ls ≡ m
   pub shallow : All (λ l. l ≤ highestLayer) ls
 
--- what an answer has passed that is none of refusals 1 to 3; one that is not 4; and one that is none of these and not 13
-counted-other : {A : Type 0} (xs : List Float) (ns : List ℕ) (later b : Answer A) → Other 1 b → Other 2 b → Other 3 b → counted xs ns later ≡ b →
-    (length ns ≤ 4096) × (sum ns ≤ 65536) × (length xs ≡ 2 * sum ns) × (later ≡ b)
-unfolding counted
-counted-other xs ns later b o1 o2 o3 e =
-    let e1 = refuse-other _ _ _ _ b o1 e in
-    let e2 = refuse-other _ _ _ _ b o2 (e1 .1) in
-    let e3 = refuse-other _ _ _ _ b o3 (e2 .1) in
-    (ltb-false 4096 (length ns) (e1 .0), ltb-false 65536 (sum ns) (e2 .0), eqb-true (length xs) (2 * sum ns) (not-false _ (e3 .0)), e3 .1)
+on-plate : (xs : List Float) → offThePlate xs .test ≡ false → All OnPlate xs
+unfolding offThePlate outOfRange
+on-plate xs e = first-off plateLimit 0 xs (omega (arith, ltb-false (firstOff plateLimit 0 xs) (length xs) e))
 
-on-plate-other : {A : Type 0} (xs : List Float) (later b : Answer A) → Other 4 b → onPlate xs later ≡ b → All OnPlate xs × (later ≡ b)
-unfolding onPlate
-on-plate-other xs later b o e =
-    let e1 = refuse-other _ _ _ _ b o e in
-    (first-off plateLimit 0 xs (omega (arith, ltb-false (firstOff plateLimit 0 xs) (length xs) (e1 .0))), e1 .1)
+accepted-by : (xs : List Float) (ns : List ℕ) → Passed (tooManyContours ns ∷ tooManyPoints ns ∷ miscounted xs ns ∷ offThePlate xs ∷ []) → Accepted xs ns
+unfolding tooManyContours tooManyPoints miscounted
+accepted-by xs ns (m, (p, (c, (o, t)))) =
+    record {
+      contours = ltb-false 4096 (length ns) m;
+      points = ltb-false 65536 (sum ns) p;
+      counted = eqb-true (length xs) (2 * sum ns) (not-false _ c);
+      on-plate = on-plate xs o;
+    }
 
-pub record OtherThanChecks {A : Type 0} (b : Answer A) : Type 0 where
-  pub contours : Other 1 b
-  pub points : Other 2 b
-  pub counted : Other 3 b
-  pub layers : Other 13 b
-  pub on-plate : Other 4 b
+layered-by : (m : ℕ) (ls : List ℕ) → Passed (badLayerCount m ls ∷ badLayer ls ∷ []) → Layered m ls
+unfolding badLayerCount badLayer
+layered-by m ls (c, (b, t)) =
+    record {
+      counted = eqb-true (length ls) m (not-false _ c);
+      shallow = first-bad 0 ls (omega (arith, ltb-false (firstBad 0 ls) (length ls) b));
+    }
 
-pub checked-other : {A : Type 0} (xs : List Float) (ns ls : List ℕ) (later b : Answer A) → OtherThanChecks b → checked xs ns ls later ≡ b →
-    Accepted xs ns × Layered (length ns) ls × (later ≡ b)
-unfolding checked layered
-checked-other xs ns ls later b o e =
-    let n = counted-other xs ns _ b (o .contours) (o .points) (o .counted) e in
-    let e1 = refuse-other _ _ _ _ b (o .layers) (n .3) in
-    let e2 = refuse-other _ _ _ _ b (o .layers) (e1 .1) in
-    let p = on-plate-other xs later b (o .on-plate) (e2 .1) in (
-      record { contours = n .0; points = n .1; counted = n .2; on-plate = p .0 },
-      record {
-        counted = eqb-true (length ls) (length ns) (not-false _ (e1 .0));
-        shallow = first-bad 0 ls (omega (arith, ltb-false (firstBad 0 ls) (length ls) (e2 .0)));
-      },
-      p .1,
-    )
+-- what an answer has passed that is a result, or another refusal
+pub input-other : {A : Type 0} (xs : List Float) (ns ls : List ℕ) (later b : Answer A) → OtherThan (inputRows xs ns ls) b →
+    refusedBy (inputRows xs ns ls) later ≡ b → Accepted xs ns × Layered (length ns) ls × (later ≡ b)
+unfolding inputRows
+input-other xs ns ls later b o e =
+    let ((m, (p, (c, (n, (l, (o, t)))))), same) = rows-other (inputRows xs ns ls) later b o e in
+    (accepted-by xs ns (m, (p, (c, (o, tt)))), layered-by (length ns) ls (n, (l, tt)), same)
 
--- and what a result has passed
-pub counted-gives : {A : Type 0} (xs : List Float) (ns : List ℕ) (later : Answer A) (c : A) → counted xs ns later ≡ gives c →
-    (length ns ≤ 4096) × (sum ns ≤ 65536) × (length xs ≡ 2 * sum ns) × (later ≡ gives c)
-counted-gives xs ns later c e = counted-other xs ns later (gives c) tt tt tt e
-
-pub checked-gives : {A : Type 0} (xs : List Float) (ns ls : List ℕ) (later : Answer A) (c : A) → checked xs ns ls later ≡ gives c →
+pub input-gives : {A : Type 0} (xs : List Float) (ns ls : List ℕ) (later : Answer A) (c : A) → refusedBy (inputRows xs ns ls) later ≡ gives c →
     Accepted xs ns × Layered (length ns) ls × (later ≡ gives c)
-checked-gives xs ns ls later c e =
-    checked-other xs ns ls later (gives c) (record { contours = tt; points = tt; counted = tt; layers = tt; on-plate = tt }) e
+input-gives xs ns ls later c e = input-other xs ns ls later (gives c) (given-other (inputRows xs ns ls) c) e
 
--- contours without layers: an answer that is none of refusals 1 to 4, and a result
-pub contours-other : {A : Type 0} (xs : List Float) (ns : List ℕ) (later b : Answer A) → Other 1 b → Other 2 b → Other 3 b → Other 4 b →
-    checkedContours xs ns later ≡ b → Accepted xs ns × (later ≡ b)
-unfolding checkedContours
-contours-other xs ns later b o1 o2 o3 o4 e =
-    let n = counted-other xs ns _ b o1 o2 o3 e in
-    let p = on-plate-other xs later b o4 (n .3) in
-    (record { contours = n .0; points = n .1; counted = n .2; on-plate = p .0 }, p .1)
+-- refusal 6 is none of these, and neither is 12
+pub input-lacks : (xs : List Float) (ns ls : List ℕ) → Lacks 6 (inputRows xs ns ls) × Lacks 12 (inputRows xs ns ls)
+unfolding inputRows every tooManyContours tooManyPoints miscounted badLayerCount badLayer outOfRange offThePlate
+input-lacks xs ns ls = (tt, tt)
 
-pub contours-gives : {A : Type 0} (xs : List Float) (ns : List ℕ) (later : Answer A) (c : A) → checkedContours xs ns later ≡ gives c →
+-- of contours without layers
+pub contours-accepted : (xs : List Float) (ns : List ℕ) → Passed (contourRows xs ns) → Accepted xs ns
+unfolding contourRows
+contours-accepted xs ns p = accepted-by xs ns p
+
+pub contours-gives : {A : Type 0} (xs : List Float) (ns : List ℕ) (later : Answer A) (c : A) → refusedBy (contourRows xs ns) later ≡ gives c →
     Accepted xs ns × (later ≡ gives c)
-contours-gives xs ns later c e = contours-other xs ns later (gives c) tt tt tt tt e
+contours-gives xs ns later c e = let (p, same) = rows-give (contourRows xs ns) later c e in (contours-accepted xs ns p, same)
 
 -- and back: what is accepted passes
 first-on : (limit : Float) (i : ℕ) (xs : List Float) → All (λ x. T (inRange limit x)) xs → firstOff limit i xs ≡ i + length xs
@@ -147,17 +110,16 @@ first-on limit i (x ∷ xs) a = go (inRange limit x) (a .0) (first-on limit (suc
     go true t e = omega (arith, e)
     go false t e = absurd t
 
-pub contours-passes : {A : Type 0} (xs : List Float) (ns : List ℕ) → Accepted xs ns → (later : Answer A) → checkedContours xs ns later ≡ later
-unfolding checkedContours counted onPlate refuseIf
-contours-passes xs ns a later =
-    let all : firstOff plateLimit 0 xs ≡ 0 + length xs = first-on plateLimit 0 xs (a .on-plate) in
-    rw (
+pub accepted-contours : (xs : List Float) (ns : List ℕ) → Accepted xs ns → Passed (contourRows xs ns)
+unfolding contourRows tooManyContours tooManyPoints miscounted offThePlate outOfRange
+accepted-contours xs ns a =
+    let all : firstOff plateLimit 0 xs ≡ 0 + length xs = first-on plateLimit 0 xs (a .on-plate) in (
       le-ltb 4096 (length ns) (a .contours),
-      le-ltb 65536 (sum ns) (a .points),
-      eq-eqb (length xs) (2 * sum ns) (a .counted),
-      le-ltb (firstOff plateLimit 0 xs) (length xs) (omega (arith, all)),
+      (
+        le-ltb 65536 (sum ns) (a .points),
+        (ap not (eq-eqb (length xs) (2 * sum ns) (a .counted)), (le-ltb (firstOff plateLimit 0 xs) (length xs) (omega (arith, all)), tt)),
+      ),
     )
-    refl
 
 -- ---- points and distances
 

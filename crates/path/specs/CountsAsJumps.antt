@@ -9,7 +9,7 @@ use lib.Ieee.{Float}
 use lib.ListN.{length}
 use borrow.Author.Tests.{eqb-true, eqb-false, ne-eqb}
 use Rattle.rules.specs.Tools.{pick}
-use Rattle.rules.specs.HandedOver.{Plate, retraceRoom, Answer, gives, refuses, refuseIf, counted, layered, onPlate, checked, retraceWork, fitted, after}
+use Rattle.rules.specs.HandedOver.{Plate, retraceRoom, Answer, gives, refuses, RefusalRow, refusedBy, retraceRows, after}
 use Rattle.rules.specs.RetraceAndMarks.{cutKind, backStepKind, jumpKind, touchKind, Step, retrace, coordinates, marks, countMarks, marksOf}
 use Rattle.rules.specs.Calls.{counts, vertices, RetraceOutcome, retraceCall}
 use Rattle.rules.specs.declared.Counts.{Counts}
@@ -82,7 +82,7 @@ unfoldable pub jumpRetraceCall : Plate → List Float → List ℕ → ℕ → �
 jumpRetraceCall p path ms w d =
     let c = retraceRoom (length path) (length ms) in
     let r = jumpRetrace p in
-    let a = checked (p .points) (p .lengths) (p .layers) (retraceWork p c w d (fitted c (length r) (counts r))) in
+    let a = refusedBy (retraceRows p w d c (length r)) (gives (counts r)) in
     record { answer = a; path = after a c (coordinates (p .points) (vertices r)) path; marks = after a c (marks r) ms }
 
 -- a refusal keeps its number and its place
@@ -90,10 +90,15 @@ unfoldable pub answerAsJumps : Answer Counts → Answer Counts
 answerAsJumps (gives c) = gives (countsAsJumps c)
 answerAsJumps (refuses number place) = refuses number place
 
-refuse-as : (b : Bool) (number place : ℕ) (later : Answer Counts) → answerAsJumps (refuseIf b number place later) ≡ refuseIf b number place (answerAsJumps later)
-unfolding refuseIf answerAsJumps
-refuse-as true number place later = refl
-refuse-as false number place later = refl
+rows-as : (rs : List RefusalRow) (later : Answer Counts) → answerAsJumps (refusedBy rs later) ≡ refusedBy rs (answerAsJumps later)
+unfolding refusedBy pick answerAsJumps
+rows-as [] later = refl
+rows-as (r ∷ rs) later = go (r .test) (rows-as rs later)
+  where
+    go : (t : Bool) → answerAsJumps (refusedBy rs later) ≡ refusedBy rs (answerAsJumps later) →
+        answerAsJumps (pick t (refuses (r .number) (r .place)) (refusedBy rs later)) ≡ pick t (refuses (r .number) (r .place)) (refusedBy rs (answerAsJumps later))
+    go true rest = refl
+    go false rest = rest
 
 after-as : (a b : Answer Counts) → answerAsJumps a ≡ b → (c : ℕ) (result slice : List Float) → after a c result slice ≡ after b c result slice
 unfolding after answerAsJumps
@@ -102,8 +107,8 @@ after-as (refuses number place) b e c result slice = rw (← e)
 
 module _ (p : Plate) (path : List Float) (ms : List ℕ) (w d : ℕ) where
   pub same-answer : answerAsJumps (retraceCall p path ms w d .answer) ≡ jumpRetraceCall p path ms w d .answer
-  unfolding retraceCall jumpRetraceCall checked counted layered onPlate retraceWork fitted answerAsJumps
-  same-answer = rw (← same-length p, ← counts-as-jumps p) (simp refuse-as)
+  unfolding retraceCall jumpRetraceCall answerAsJumps
+  same-answer = rw (← same-length p, ← counts-as-jumps p) (rows-as _ _)
 
   pub same-path : retraceCall p path ms w d .path ≡ jumpRetraceCall p path ms w d .path
   unfolding retraceCall jumpRetraceCall

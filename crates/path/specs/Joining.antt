@@ -9,7 +9,7 @@ use Rattle.rules.specs.Tools.{without, highestLayer}
 use Rattle.rules.specs.HandedOver.{Plate, Contour, contours, vertexAt, layerAt}
 use Rattle.rules.specs.Start.{Oriented}
 use Rattle.rules.specs.SamplesAndCache.{Waiting, waiting, seed, update, cellsAround}
-use Rattle.rules.specs.RetraceAndMarks.{Step, begin, pathPoints, closer, waitingLayer, choose, numberOf, entered, joinAll, retraceFrom, retraceOf, retrace}
+use Rattle.rules.specs.RetraceAndMarks.{Step, begin, pathPoints, closer, waitingLayer, choose, waitingNumber, entered, joinAll, retraceFrom, retraceOf, retrace}
 use Rattle.rules.specs.OrderAndStraight.{contourNumber}
 use Rattle.rules.specs.PathStatement.{contourCount, Among, IsContour}
 use Rattle.rules.specs.declared.SpatialGrid.{SpatialGrid}
@@ -46,8 +46,8 @@ unfolding waiting
 contours-waiting p g [] = refl
 contours-waiting p g (c ∷ cs) = ap (λ (ds : List Contour). c ∷ ds) (contours-waiting p g cs)
 
-pub contours-without : (n : ℕ) (ws : List Waiting) → map contourOf (without numberOf n ws) ≡ without contourNumber n (map contourOf ws)
-unfolding numberOf contourNumber
+pub contours-without : (n : ℕ) (ws : List Waiting) → map contourOf (without waitingNumber n ws) ≡ without contourNumber n (map contourOf ws)
+unfolding waitingNumber contourNumber
 contours-without n ws = map-without contourOf contourNumber n ws
 
 -- a change of the caches leaves the contours
@@ -78,7 +78,7 @@ module _ (p : Plate) (P : List Contour → List Step → Type 0) (begins : Begin
   -- w is chosen: one contour less waits afterwards
   join-one : (n : ℕ) → ((ws : List Waiting) (path : List Step) → Keeps n ws path) → (ws : List Waiting) (path : List Step) (w : Waiting) →
       choose p ws ≡ some w → Keeps (suc n) ws path
-  unfolding joinAll choose numberOf waitingLayer
+  unfolding joinAll choose waitingNumber waitingLayer
   join-one n join ws path w chosen l part sane coming h =
       let cs = map contourOf ws in
       let all-among = map-all (λ c. Among c cs) contourOf ws (among-all _ cs (λ c m. m)) in
@@ -88,12 +88,12 @@ module _ (p : Plate) (P : List Contour → List Step → Type 0) (begins : Begin
       let cells = cellsAround (vertexAt p (w .contour)) (gridFor p) (w .contour .last) in
       let f = update p (gridFor p) (pathPoints p next) cells in
       let caching = update-caching p (gridFor p) (pathPoints p next) cells in
-      let rest = without numberOf (numberOf w) ws in
-      let q : map contourOf (map f rest) ≡ others (w .contour) cs = contours-cached f caching rest ∙ contours-without (numberOf w) ws in
+      let rest = without waitingNumber (waitingNumber w) ws in
+      let q : map contourOf (map f rest) ≡ others (w .contour) cs = contours-cached f caching rest ∙ contours-without (waitingNumber w) ws in
       let m : length (map f rest) ≡ n =
       omega (arith, length-map (map f rest) contourOf, ap length q, length-others (w .contour) cs (coming .rising) among, length-map ws contourOf) in
       rw (chosen, joinAll)
-      (join (map f rest) next m (part-cached f caching p rest (all-without _ numberOf (numberOf w) ws part)) (sane-cached f caching rest (all-without Sane numberOf (numberOf w) ws sane))
+      (join (map f rest) next m (part-cached f caching p rest (all-without _ waitingNumber (waitingNumber w) ws part)) (sane-cached f caching rest (all-without Sane waitingNumber (waitingNumber w) ws sane))
       (rw q (coming-without p (w .contour .number) cs coming))
       (rw q (enters cs path w coming among low (foremost-has (waitingLayer p) closer Sane ws sane w chosen .entry) h)))
 
@@ -109,15 +109,15 @@ module _ (p : Plate) (P : List Contour → List Step → Type 0) (begins : Begin
   from-keeps t s i low =
       let n = s .contour .number in
       let all = map (waiting p (gridFor p)) (contours p) in
-      let ws = without numberOf n all in
+      let ws = without waitingNumber n all in
       let f = seed p (gridFor p) (pathPoints p (begin s)) in
       let caching = seed-caching p (gridFor p) (pathPoints p (begin s)) in
       let sane = all-map Sane (waiting p (gridFor p)) (contours p) (all-of _ (waiting-sane p (gridFor p)) (contours p)) in
       let q : map contourOf (map f ws) ≡ others (s .contour) (contours p) =
       contours-cached f caching ws ∙ contours-without n all ∙ ap (without contourNumber n) (contours-waiting p (gridFor p) (contours p)) in
       join-keeps (length ws) (map f ws) (begin s) (length-map ws f)
-      (part-cached f caching p ws (all-without _ numberOf n all (all-map (λ w. layerAt p (w .contour) ≤ highestLayer) (waiting p (gridFor p)) (contours p) t)))
-      (sane-cached f caching ws (all-without Sane numberOf n all sane))
+      (part-cached f caching p ws (all-without _ waitingNumber n all (all-map (λ w. layerAt p (w .contour) ≤ highestLayer) (waiting p (gridFor p)) (contours p) t)))
+      (sane-cached f caching ws (all-without Sane waitingNumber n all sane))
       (rw q (coming-without p n (contours p) (record { all = all-contours p; rising = contours-rise p }))) (rw q (begins s i low))
 
   -- a plate that has a contour, all taking part: P holds of the whole path, with no contour to come

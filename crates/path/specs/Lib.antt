@@ -4,6 +4,7 @@ pub mod Winner
 pub mod Layers
 pub mod FloatOrder
 pub mod FiniteDistances
+pub mod Rows
 pub mod Accepted
 pub mod Squares
 pub mod Rings

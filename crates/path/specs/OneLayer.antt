@@ -1,27 +1,27 @@
 -- With one layer for all contours the calls answer, and leave in their slices, what they do without layers. The definitions without layers are those of
 -- crates/rules/specs with `winner` where those have `foremost`, and without refusal 13. Assumes nothing.
 use mathlib.Core.Path.{_≡_, refl, sym, ap, _∙_}
-use mathlib.Core.List.{List, [], _∷_, map}
+use mathlib.Core.List.{List, [], _∷_, _++_, map}
 use mathlib.Core.Option.{Option, none, some}
 use Prim.Native.Nat.{ℕ, zero, suc, _+_, _*_, _≤_, _<_}
 use native.Mathlib.Omega.{arith}
 use mathlib.Core.Bool.{Bool, not}
-use lib.Dec.{ltb, eqb}
 use lib.Ieee.{Float}
 use lib.ListN.{length, getD}
 use borrow.Author.Tests.{le-leb, le-ltb, eq-eqb}
-use Rattle.rules.specs.Tools.{pick, sum, without, winner, highestLayer, foremost}
-use Rattle.rules.specs.HandedOver.{Plate, Contour, contours, vertexAt, layerAt, orderRoom, straightRoom, retraceRoom, Answer, plateLimit, firstOff, firstBad}
-use Rattle.rules.specs.HandedOver.{refuseIf, counted, layered, onPlate, checked, orderWork, retraceWork, fitted, after}
+use Rattle.rules.specs.Tools.{pick, without, winner, highestLayer, foremost}
+use Rattle.rules.specs.HandedOver.{Plate, Contour, contours, vertexAt, layerAt, orderRoom, straightRoom, retraceRoom, Answer, gives, firstBad}
+use Rattle.rules.specs.HandedOver.{RefusalRow, refusedBy, badLayerCount, badLayer, workShort, full, contourRows, inputRows, plateRows, orderRows, retraceWork, retraceRows, after}
 use Rattle.rules.specs.Start.{centre, Oriented, ends, layerOf, beats, start}
 use Rattle.rules.specs.GridAndNearest.{gridOf}
 use Rattle.rules.specs.SamplesAndCache.{Waiting, waiting, seed, update, keep, cellsAround}
-use Rattle.rules.specs.RetraceAndMarks.{Step, begin, pathPoints, closer, waitingLayer, choose, numberOf, entered, joinAll, retraceFrom, retraceOf, retrace, coordinates, marks}
+use Rattle.rules.specs.RetraceAndMarks.{Step, begin, pathPoints, closer, waitingLayer, choose, waitingNumber, entered, joinAll, retraceFrom, retraceOf, retrace, coordinates, marks}
 use Rattle.rules.specs.OrderAndStraight.{lastEnd, nearerSense, nearerEnd, contourNumber, orderAfter, orderFrom, orderOf, order, entries, straight}
 use Rattle.rules.specs.Calls.{startOr, startCall, OrderOutcome, orderCall, StraightOutcome, straightCall, counts, vertices, RetraceOutcome, retraceCall}
 use Rattle.rules.specs.declared.SpatialGrid.{SpatialGrid}
 use Rattle.path.specs.Lists.{All, all-give, all-at, all-map, all-without}
 use Rattle.path.specs.Layers.{foremost-all}
+use Rattle.path.specs.Rows.{Passed}
 use Rattle.path.specs.Accepted.{Layered}
 use Rattle.path.specs.Contours.{contours-numbered}
 use Rattle.path.specs.Start.{all-ends}
@@ -58,13 +58,13 @@ plainJoinAll p g (suc n) ws path =
       | some w ↦
           let next = entered p g path w in
           let cells = cellsAround (vertexAt p (w .contour)) g (w .contour .last) in
-          plainJoinAll p g n (map (update p g (pathPoints p next) cells) (without numberOf (numberOf w) ws)) next
+          plainJoinAll p g n (map (update p g (pathPoints p next) cells) (without waitingNumber (waitingNumber w) ws)) next
     ]
 
 unfoldable pub plainRetraceFrom : Plate → SpatialGrid → Oriented → List Contour → List Step
 plainRetraceFrom p g s cs =
     let path = begin s in
-    let ws = without numberOf (s .contour .number) (map (waiting p g) cs) in
+    let ws = without waitingNumber (s .contour .number) (map (waiting p g) cs) in
     plainJoinAll p g (length ws) (map (seed p g (pathPoints p path)) ws) path
 
 unfoldable pub plainRetraceOf : Plate → Option Oriented → List Step
@@ -74,35 +74,32 @@ plainRetraceOf p (some s) = plainRetraceFrom p (gridOf (p .box)) s (contours p)
 unfoldable pub plainRetrace : Plate → List Step
 plainRetrace p = plainRetraceOf p (plainStart p)
 
-unfoldable pub plainChecked : {A : Type 0} → List Float → List ℕ → Answer A → Answer A
-plainChecked xs ns later =
-    refuseIf (ltb 4096 (length ns)) 1 0
-    (refuseIf (ltb 65536 (sum ns)) 2 0
-    (refuseIf (not (eqb (length xs) (2 * sum ns))) 3 0
-    (refuseIf (ltb (firstOff plateLimit 0 xs) (length xs)) 4 (firstOff plateLimit 0 xs) later)))
+unfoldable pub plainRows : Plate → List RefusalRow
+plainRows p = contourRows (p .points) (p .lengths)
 
 unfoldable pub plainStartCall : Plate → Answer (ℕ × Bool)
-plainStartCall p = plainChecked (p .points) (p .lengths) (startOr (plainStart p))
+plainStartCall p = refusedBy (plainRows p) (startOr (plainStart p))
 
 unfoldable pub plainOrderCall : Plate → List ℕ → ℕ → OrderOutcome
 plainOrderCall p slice w =
     let c = orderRoom (length slice) in
     let r = plainOrder p in
-    let a = plainChecked (p .points) (p .lengths) (orderWork p w (fitted c (length r) (length r))) in
+    let a = refusedBy (plainRows p ++ (workShort w (length (p .lengths)) 0 ∷ full c (length r) ∷ [])) (gives (length r)) in
     record { answer = a; order = after a c (entries r) slice }
 
 unfoldable pub plainStraightCall : Plate → List Float → ℕ → StraightOutcome
 plainStraightCall p path w =
     let c = straightRoom (length path) in
     let r = straight (plainOrder p) in
-    let a = plainChecked (p .points) (p .lengths) (orderWork p w (fitted c (length r) (length r))) in
+    let a = refusedBy (plainRows p ++ (workShort w (length (p .lengths)) 0 ∷ full c (length r) ∷ [])) (gives (length r)) in
     record { answer = a; path = after a c (coordinates (p .points) r) path }
 
 unfoldable pub plainRetraceCall : Plate → List Float → List ℕ → ℕ → ℕ → RetraceOutcome
 plainRetraceCall p path ms w d =
     let c = retraceRoom (length path) (length ms) in
     let r = plainRetrace p in
-    let a = plainChecked (p .points) (p .lengths) (retraceWork p c w d (fitted c (length r) (counts r))) in
+    let rows = workShort w (retraceWork p c) 0 ∷ workShort d (length (p .lengths)) 1 ∷ full c (length r) ∷ [] in
+    let a = refusedBy (plainRows p ++ rows) (gives (counts r)) in
     record { answer = a; path = after a c (coordinates (p .points) (vertices r)) path; marks = after a c (marks r) ms }
 
 -- ---- with one layer
@@ -149,7 +146,7 @@ module _ (p : Plate) (l : ℕ) (low : l ≤ highestLayer) where
       go none e f rest = rw (f ∙ e, joinAll, e, plainJoinAll)
       go (some w) e f rest =
           rw (f ∙ e, joinAll, e, plainJoinAll)
-          (rest _ _ (all-map (λ v. InLayer (v .contour)) _ (without numberOf (numberOf w) ws) (all-without (λ v. InLayer (v .contour)) numberOf (numberOf w) ws a)))
+          (rest _ _ (all-map (λ v. InLayer (v .contour)) _ (without waitingNumber (waitingNumber w) ws) (all-without (λ v. InLayer (v .contour)) waitingNumber (waitingNumber w) ws a)))
 
   module _ (one : OneLayer p l) where
     pub start-plain : start p ≡ plainStart p
@@ -174,10 +171,10 @@ module _ (p : Plate) (l : ℕ) (low : l ≤ highestLayer) where
         go none = refl
         go (some s) =
             let g = gridOf (p .box) in
-            let ws = without numberOf (s .contour .number) (map (waiting p g) (contours p)) in
+            let ws = without waitingNumber (s .contour .number) (map (waiting p g) (contours p)) in
             join-plain g (length ws) (map (seed p g (pathPoints p (begin s))) ws) (begin s)
             (all-map (λ w. InLayer (w .contour)) _ ws
-            (all-without (λ w. InLayer (w .contour)) numberOf (s .contour .number) _ (all-map (λ w. InLayer (w .contour)) (waiting p g) (contours p) one)))
+            (all-without (λ w. InLayer (w .contour)) waitingNumber (s .contour .number) _ (all-map (λ w. InLayer (w .contour)) (waiting p g) (contours p) one)))
 
 -- ---- the calls
 
@@ -187,9 +184,9 @@ none-bad i [] a = omega arith
 none-bad i (l ∷ ls) a = rw (le-leb l highestLayer (a .0)) (omega (arith, none-bad (suc i) ls (a .1)))
 
 -- layers that refusal 13 lets pass
-layered-passes : {A : Type 0} (m : ℕ) (ls : List ℕ) (later : Answer A) → length ls ≡ m → All (λ k. k ≤ highestLayer) ls → layered m ls later ≡ later
-unfolding layered refuseIf
-layered-passes m ls later e a = rw (eq-eqb (length ls) m e, le-ltb (firstBad 0 ls) (length ls) (omega (arith, none-bad 0 ls a)))
+layered-passes : (m : ℕ) (ls : List ℕ) → Layered m ls → Passed (badLayerCount m ls ∷ badLayer ls ∷ [])
+unfolding badLayerCount badLayer
+layered-passes m ls a = (ap not (eq-eqb (length ls) m (a .counted)), (le-ltb (firstBad 0 ls) (length ls) (omega (arith, none-bad 0 ls (a .shallow))), tt))
 
 -- refusal 13 lets a plate's layers pass, and all contours that are not empty are of layer l
 pub record OneLayered (p : Plate) (l : ℕ) : Type 0 where
@@ -203,30 +200,29 @@ one-layered p l low e a =
     record { layers = record { counted = e; shallow = all-give _ _ (λ k f. omega arith) (p .layers) a }; low = low; one = one-layer p l e a }
 
 module _ (p : Plate) (l : ℕ) (h : OneLayered p l) where
-  checked-plain : {A : Type 0} (later : Answer A) → checked (p .points) (p .lengths) (p .layers) later ≡ plainChecked (p .points) (p .lengths) later
-  unfolding checked counted onPlate plainChecked
-  checked-plain later =
-      rw (layered-passes (length (p .lengths)) (p .layers) (onPlate (p .points) later) (h .layers .counted) (h .layers .shallow))
+  rows-plain : {A : Type 0} (rs : List RefusalRow) (later : Answer A) → refusedBy (plateRows p ++ rs) later ≡ refusedBy (plainRows p ++ rs) later
+  unfolding plainRows contourRows inputRows refusedBy pick
+  rows-plain rs later = let (n, (b, t)) = layered-passes (length (p .lengths)) (p .layers) (h .layers) in rw (n, b)
 
   pub start-call-plain : startCall p ≡ plainStartCall p
-  unfolding startCall plainStartCall
-  start-call-plain = rw (start-plain p l (h .low) (h .one)) (checked-plain _)
+  unfolding startCall plainStartCall plainRows contourRows inputRows
+  start-call-plain = rw (start-plain p l (h .low) (h .one)) (rows-plain [] _)
 
   pub order-call-plain : (slice : List ℕ) (w : ℕ) → orderCall p slice w ≡ plainOrderCall p slice w
-  unfolding orderCall plainOrderCall
+  unfolding orderCall plainOrderCall orderRows
   order-call-plain slice w =
       let r = plainOrder p in
-      rw (order-plain p l (h .low) (h .one), checked-plain (orderWork p w (fitted (orderRoom (length slice)) (length r) (length r))))
+      rw (order-plain p l (h .low) (h .one), rows-plain (workShort w (length (p .lengths)) 0 ∷ full (orderRoom (length slice)) (length r) ∷ []) (gives (length r)))
 
   pub straight-call-plain : (path : List Float) (w : ℕ) → straightCall p path w ≡ plainStraightCall p path w
-  unfolding straightCall plainStraightCall
+  unfolding straightCall plainStraightCall orderRows
   straight-call-plain path w =
       let r = straight (plainOrder p) in
-      rw (order-plain p l (h .low) (h .one), checked-plain (orderWork p w (fitted (straightRoom (length path)) (length r) (length r))))
+      rw (order-plain p l (h .low) (h .one), rows-plain (workShort w (length (p .lengths)) 0 ∷ full (straightRoom (length path)) (length r) ∷ []) (gives (length r)))
 
   pub retrace-call-plain : (path : List Float) (ms : List ℕ) (w d : ℕ) → retraceCall p path ms w d ≡ plainRetraceCall p path ms w d
-  unfolding retraceCall plainRetraceCall
+  unfolding retraceCall plainRetraceCall retraceRows
   retrace-call-plain path ms w d =
       let r = plainRetrace p in
       let c = retraceRoom (length path) (length ms) in
-      rw (retrace-plain p l (h .low) (h .one), checked-plain (retraceWork p c w d (fitted c (length r) (counts r))))
+      rw (retrace-plain p l (h .low) (h .one), rows-plain (workShort w (retraceWork p c) 0 ∷ workShort d (length (p .lengths)) 1 ∷ full c (length r) ∷ []) (gives (counts r)))

@@ -24,21 +24,21 @@
 -- The pairs are proved in Entering (over Pairs, Runs and Emission; the nine cells in Nearest, over Squares and Rings), the numbers in Totals (over Shares),
 -- both by the induction over the joining in Joining; the slices in Slices; and what a result says of the plate in Accepted. Assumes nothing.
 use mathlib.Core.Path.{_≡_, refl, sym, ap, _∙_, subst}
-use mathlib.Core.Bool.{not}
-use mathlib.Core.List.{List, _++_}
+use mathlib.Core.List.{List, [], _∷_, _++_}
 use Prim.Native.Nat.{ℕ, suc, _*_, _≤_, _<_}
 use native.Mathlib.Omega.{arith}
-use lib.Dec.{T, eqb, ltb→lt}
+use lib.Dec.{ltb→lt}
 use lib.Ieee.{Float}
 use lib.ListN.{length, take, drop}
 use lib.Seq.{length-take-le, take-at}
-use Rattle.rules.specs.Tools.{pick}
-use Rattle.rules.specs.HandedOver.{Plate, Answer, gives, refuses, refuseIf, retraceRoom, retraceWork, fitted, over, after}
+use Rattle.rules.specs.Tools.{pick, every}
+use Rattle.rules.specs.HandedOver.{Plate, Answer, gives, refuses, retraceRoom, refusedBy, workShort, full, plateRows, retraceWork, retraceRows, over, after}
 use Rattle.rules.specs.RetraceAndMarks.{vertexOf, retrace, coordinates, marks}
 use Rattle.rules.specs.Calls.{counts, vertices, retraceCall}
 use Rattle.rules.specs.PathStatement.{contourCount, vertexIn, Divides, PathStatement}
 use Rattle.rules.specs.declared.Counts.{Counts}
-use Rattle.path.specs.Accepted.{refuse-other, refuse-tells, refuse-gives, Accepted, OtherThanChecks, checked-other, checked-gives, Measurable, accepted-measurable}
+use Rattle.path.specs.Rows.{rows-other, rows-give, rows-append, lacks-other, row-tells}
+use Rattle.path.specs.Accepted.{Accepted, input-other, input-gives, input-lacks, Measurable, accepted-measurable}
 use Rattle.path.specs.Start.{AllTakePart, layered-part}
 use Rattle.path.specs.Pairs.{pair-same, divided-some, divided-start, divided-pairs, divided-length}
 use Rattle.path.specs.Entering.{retrace-divided}
@@ -75,30 +75,25 @@ retrace-divides p m t h =
 -- what it means that the call answers with counts
 pub retrace-gives : (p : Plate) (path : List Float) (ms : List ℕ) (w d : ℕ) (c : Counts) → retraceCall p path ms w d .answer ≡ gives c →
     Accepted (p .points) (p .lengths) × AllTakePart p × (c ≡ counts (retrace p))
-unfolding retraceCall retraceWork fitted
+unfolding retraceCall retraceRows
 retrace-gives p path ms w d c e =
-    let accepted = checked-gives (p .points) (p .lengths) (p .layers) _ c e in
-    let e1 = refuse-gives _ _ _ _ c (accepted .2) in
-    let e2 = refuse-gives _ _ _ _ c (e1 .1) in
-    let e3 = refuse-gives _ _ _ _ c (e2 .1) in
-    (accepted .0, layered-part p (accepted .1), cc (e3 .1))
-
--- another number than 6
-not-six : (n : ℕ) → T (not (eqb 6 n)) → 6 ≡ n → ⊥
-not-six n t e = subst (λ (m : ℕ). T (not (eqb 6 m))) (sym e) t
+    let accepted = input-gives (p .points) (p .lengths) (p .layers) _ c (sym (rows-append (plateRows p) _ _) ∙ e) in
+    let same = rows-give _ _ c (accepted .2) .1 in
+    (accepted .0, layered-part p (accepted .1), cc same)
 
 -- and with refusal 6
 pub retrace-full : (p : Plate) (path : List Float) (ms : List ℕ) (w d k : ℕ) → retraceCall p path ms w d .answer ≡ refuses 6 k →
     Accepted (p .points) (p .lengths) × AllTakePart p × (k ≡ retraceRoom (length path) (length ms)) × (k < length (retrace p))
-unfolding retraceCall retraceWork fitted
+unfolding retraceCall retraceRows refusedBy every workShort full
 retrace-full p path ms w d k e =
-    let others : OtherThanChecks {A = Counts} (refuses 6 k) =
-    record { contours = not-six 1 tt; points = not-six 2 tt; counted = not-six 3 tt; layers = not-six 13 tt; on-plate = not-six 4 tt } in
-    let accepted = checked-other (p .points) (p .lengths) (p .layers) _ (refuses 6 k) others e in
-    let e1 = refuse-other _ _ _ _ (refuses 6 k) (not-six 5 tt) (accepted .2) in
-    let e2 = refuse-other _ _ _ _ (refuses 6 k) (not-six 5 tt) (e1 .1) in
-    let (full, same) = refuse-tells _ _ _ _ tt k (e2 .1) in
-    (accepted .0, layered-part p (accepted .1), sym same, omega (arith, ltb→lt (retraceRoom (length path) (length ms)) (length (retrace p)) full, same))
+    let c = retraceRoom (length path) (length ms) in
+    let n = length (retrace p) in
+    let works = workShort w (retraceWork p c) 0 ∷ workShort d (length (p .lengths)) 1 ∷ [] in
+    let lacks = input-lacks (p .points) (p .lengths) (p .layers) .0 in
+    let accepted = input-other (p .points) (p .lengths) (p .layers) _ (refuses 6 k) (lacks-other Counts 6 k (plateRows p) lacks) (sym (rows-append (plateRows p) _ _) ∙ e) in
+    let last = rows-other works (refusedBy (full c n ∷ []) _) (refuses 6 k) (lacks-other Counts 6 k works tt) (accepted .2) .1 in
+    let (beyond, same) = row-tells (full c n) _ k tt last in
+    (accepted .0, layered-part p (accepted .1), sym same, omega (arith, ltb→lt c n beyond, same))
 
 -- an output slice after a result of n numbers
 pub slice-after : {A B : Type 0} (a : Answer A) (c : A) (room n : ℕ) (result slice : List B) → a ≡ gives c → length result ≡ n →

@@ -13,7 +13,7 @@ use Rattle.rules.specs.Start.{Oriented, start}
 use Rattle.rules.specs.GridAndNearest.{gridOf, nearest}
 use Rattle.rules.specs.SamplesAndCache.{Waiting, waiting, seed, update, cellsAround}
 use Rattle.rules.specs.RetraceAndMarks.{startKind, jumpKind, touchKind, coincide, landingKind, Step, land, cutUp, cutDown, backStep, stepAt, vertexOf, walkTo, walkBack}
-use Rattle.rules.specs.RetraceAndMarks.{forward, backward, returnTo, bothWays, emit, entryOf, begin, pathPoints, choose, numberOf, placeIn}
+use Rattle.rules.specs.RetraceAndMarks.{forward, backward, returnTo, bothWays, emit, entryOf, begin, pathPoints, choose, waitingNumber, placeIn}
 use Rattle.rules.specs.RetraceAndMarks.{entered, joinAll, retraceFrom, retraceOf, retrace}
 use Rattle.rules.specs.Calls.{vertices}
 use Rattle.rules.specs.declared.Point.{Point}
@@ -36,13 +36,13 @@ jumpJoinAll p g (suc n) ws path =
       | some w ↦
           let next = jumpEntered p g path w in
           let cells = cellsAround (vertexAt p (w .contour)) g (w .contour .last) in
-          jumpJoinAll p g n (map (update p g (pathPoints p next) cells) (without numberOf (numberOf w) ws)) next
+          jumpJoinAll p g n (map (update p g (pathPoints p next) cells) (without waitingNumber (waitingNumber w) ws)) next
     ]
 
 unfoldable pub jumpRetraceFrom : Plate → SpatialGrid → Oriented → List Contour → List Step
 jumpRetraceFrom p g s cs =
     let path = begin s in
-    let ws = without numberOf (s .contour .number) (map (waiting p g) cs) in
+    let ws = without waitingNumber (s .contour .number) (map (waiting p g) cs) in
     jumpJoinAll p g (length ws) (map (seed p g (pathPoints p path)) ws) path
 
 unfoldable pub jumpRetraceOf : Plate → Option Oriented → List Step

@@ -1,10 +1,10 @@
 // The check of a path from elsewhere: whether its marks divide it as the path statement says.
 ghost use mathlib.Core.Path.{_≡_};
-ghost use mathlib.Core.List.{List};
+ghost use mathlib.Core.List.{List, [], _∷_};
 ghost use Prim.Native.Nat.{ℕ, _+_, _*_, _/_, _≤_, _<_};
 ghost use lib.ListN.{length};
 ghost use Rattle.rules.specs.Tools.{sum, firstFailing};
-ghost use Rattle.rules.specs.HandedOver.{Contour, contoursOf, gives, checkAnswer, WorkKept};
+ghost use Rattle.rules.specs.HandedOver.{Contour, contoursOf, gives, refusedBy, checkAnswer, WorkKept};
 ghost use Rattle.rules.specs.PathCheck as rule;
 ghost use Rattle.division.specs.Says.{Says};
 ghost use Rattle.path_rules.specs.Tallied.{Labelled, Tallied};
@@ -124,7 +124,7 @@ pub fn check_division(
     requires { ⌜ (2 * total ≤ length (now points)) × (length (now marks) ≡ length (now path))
         × (length (now path) ≡ 2 * (length (now path) / 2)) × Labelled total (now work) ⌝ }
     ensures { λ r. ⌜ ((cs : List Contour) → Tallied cs total (now (marks .entry)) 0 (now (work .entry)) →
-        checkAnswer r ≡ rule.drawn cs (now (points .entry)) (length (now (path .entry)) / 2) (now (path .entry)) (now (marks .entry)) (gives tt)) ⌝ }
+        checkAnswer r ≡ refusedBy (rule.notDrawn cs (now (points .entry)) (length (now (path .entry)) / 2) (now (path .entry)) (now (marks .entry)) ∷ []) (gives tt)) ⌝ }
 {
     let place = first_failing(points, path, marks, work, total);
     let refused = CheckAnswer::NotAccepted(Refusal::NotDrawn(place as u64));

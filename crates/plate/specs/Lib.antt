@@ -1,3 +1,3 @@
 pub mod Answer
 pub mod Reading
-pub mod Refused
+pub mod Counted

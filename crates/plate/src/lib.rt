@@ -3,8 +3,9 @@ ghost use mathlib.Core.Path.{_≡_};
 ghost use Prim.Native.Nat.{_≤_};
 ghost use lib.ListN.{length};
 ghost use Rattle.rules.specs.Tools.{sum};
-ghost use Rattle.rules.specs.HandedOver.{gives, inRange, plateLimit, firstOff, firstBad, counted, onPlate, checkedContours, checked};
-ghost use Rattle.plate.specs.Answer.{checkedAnswer};
+ghost use mathlib.Core.List.{[], _∷_};
+ghost use Rattle.rules.specs.HandedOver.{gives, inRange, plateLimit, firstOff, firstBad, refusedBy, offThePlate, contourRows, inputRows};
+ghost use Rattle.plate.specs.Answer.{checkedAnswer, countRows};
 use rules::HIGHEST_LAYER;
 use rules::Refusal;
 
@@ -65,7 +66,7 @@ fn first_bad(layers: &[u32]) -> usize
 
 // Refusals 1 to 3.
 fn check_counts(points: &[f64], lengths: &[u32]) -> Checked
-    ensures { λ r. ⌜ checkedAnswer r ≡ counted (now (points .entry)) (now (lengths .entry)) (gives (sum (now (lengths .entry)))) ⌝ }
+    ensures { λ r. ⌜ checkedAnswer r ≡ refusedBy (countRows (now (points .entry)) (now (lengths .entry))) (gives (sum (now (lengths .entry)))) ⌝ }
 {
     if 4096 < lengths.len() {
         return Checked::Unsound(Refusal::TooManyContours);
@@ -83,7 +84,7 @@ fn check_counts(points: &[f64], lengths: &[u32]) -> Checked
 // Refusal 4, of points that refusals 1 to 3 let pass, else the answer before it.
 fn check_points(points: &[f64], answer: Checked) -> Checked
     requires { ⌜ length (now points) ≤ 131072 ⌝ }
-    ensures { λ r. ⌜ checkedAnswer r ≡ onPlate (now (points .entry)) (checkedAnswer answer) ⌝ }
+    ensures { λ r. ⌜ checkedAnswer r ≡ refusedBy (offThePlate (now (points .entry)) ∷ []) (checkedAnswer answer) ⌝ }
 {
     let k = first_off(points);
     if k < points.len() {
@@ -94,7 +95,7 @@ fn check_points(points: &[f64], answer: Checked) -> Checked
 
 // Refusals 1 to 4, of contours without layers.
 pub fn check_contours(points: &[f64], lengths: &[u32]) -> Checked
-    ensures { λ r. ⌜ checkedAnswer r ≡ checkedContours (now (points .entry)) (now (lengths .entry)) (gives (sum (now (lengths .entry)))) ⌝ }
+    ensures { λ r. ⌜ checkedAnswer r ≡ refusedBy (contourRows (now (points .entry)) (now (lengths .entry))) (gives (sum (now (lengths .entry)))) ⌝ }
 {
     let counted = check_counts(points, lengths);
     let Checked::Sound(_) = counted else {
@@ -105,7 +106,7 @@ pub fn check_contours(points: &[f64], lengths: &[u32]) -> Checked
 
 // Refusals 1 to 3, 13 and 4.
 pub fn check(points: &[f64], lengths: &[u32], layers: &[u32]) -> Checked
-    ensures { λ r. ⌜ checkedAnswer r ≡ checked (now (points .entry)) (now (lengths .entry)) (now (layers .entry)) (gives (sum (now (lengths .entry)))) ⌝ }
+    ensures { λ r. ⌜ checkedAnswer r ≡ refusedBy (inputRows (now (points .entry)) (now (lengths .entry)) (now (layers .entry))) (gives (sum (now (lengths .entry)))) ⌝ }
 {
     let counted = check_counts(points, lengths);
     let Checked::Sound(_) = counted else {

@@ -7,8 +7,8 @@ use lib.Ieee.{Float}
 use lib.ListN.{length, take}
 use lib.Seq.{take-all, take-at}
 use borrow.Author.Tests.{lt-ltb, le-ltb}
-use Rattle.rules.specs.Tools.{pick, sum}
-use Rattle.rules.specs.HandedOver.{Plate, Answer, gives, refuses, refusal, refuseIf, checked, retraceWork, fitted, over, after, retraceRoom, freesWork, WorkKept}
+use Rattle.rules.specs.Tools.{pick}
+use Rattle.rules.specs.HandedOver.{Plate, Answer, gives, refuses, refusal, RefusalRow, refusedBy, workShort, full, plateRows, retraceWork, retraceRows, over, after, retraceRoom, freesWork, WorkKept}
 use Rattle.rules.specs.RetraceAndMarks.{cutKind, backStepKind, jumpKind, touchKind, Step, coordinates, marks, marksOf, retrace}
 use Rattle.rules.specs.Calls.{counts, vertices, retraceCall}
 use Rattle.rules.specs.declared.Counts.{Counts}
@@ -16,13 +16,14 @@ use Rattle.rules.specs.declared.Refusal.{Refusal}
 use Rattle.rules.specs.PathStatement.{contourCount, Divides, PathStatement, NeverFall, LayerStatement}
 use Rattle.rules.specs.Box.{box}
 use Rattle.rules.specs.HowNear.{LandingsNear, writtenPoints, AllF64, HowNear}
+use Rattle.path.specs.Rows.{rows-give, rows-pass, rows-append, refusal-refuses}
+use Rattle.path.specs.Accepted.{input-lacks}
 use Rattle.path.specs.Slices.{marks-length}
 use Rattle.path.specs.Theorem.{path-statement}
 use Rattle.path.specs.NeverFall.{layer-statement}
 use Rattle.near.specs.Theorem.{how-near}
-use Rattle.plate.specs.Refused.{checked-refuses, checked-passes}
 use Rattle.slices.specs.Pairs.{pairs-take, coordinates-take}
-use Rattle.slices.specs.Outcome.{after-checked, work-same}
+use Rattle.slices.specs.Outcome.{after-rows, work-same}
 use Rattle.path_points.specs.Wrote.{Wrote, marks-pairs}
 
 -- `a` is the call's answer, and the slices afterwards are path′, ms′, work′ and ds′
@@ -73,42 +74,51 @@ module _ (p : Plate) (path : List Float) (ms work : List ℕ) (ds : List Float) 
   abbrev pub c : ℕ
   c = retraceRoom (length path) (length ms)
 
-  pub met-refused : (r : Refusal) (m : ℕ) → refusal r ≡ checked (p .points) (p .lengths) (p .layers) (gives m) → Met p path ms work ds (refusal r) path ms work ds
+  -- n path points, told as `a`, and the rows behind those of the plate
+  abbrev rows : ℕ → List RefusalRow
+  rows n = workShort (length work) (retraceWork p c) 0 ∷ workShort (length ds) (length (p .lengths)) 1 ∷ full c n ∷ []
+
+  behind : {A : Type 0} (n : ℕ) (a : A) → refusedBy (retraceRows p (length work) (length ds) c n) (gives a) ≡ refusedBy (plateRows p) (refusedBy (rows n) (gives a))
+  unfolding retraceRows
+  behind n a = rows-append (plateRows p) (rows n) (gives a)
+
+  pub met-refused : (r : Refusal) (m : ℕ) → refusal r ≡ refusedBy (plateRows p) (gives m) → Met p path ms work ds (refusal r) path ms work ds
   unfolding retraceCall
-  met-refused r m h = (
-    checked-refuses (p .points) (p .lengths) (p .layers) r m _ h,
-    after-checked (p .points) (p .lengths) (p .layers) r m _ c _ path h,
-    after-checked (p .points) (p .lengths) (p .layers) r m _ c _ ms h,
-    work-same _ work,
-    work-same _ ds,
-  )
+  met-refused r m h =
+      let lacks = input-lacks (p .points) (p .lengths) (p .layers) .0 in
+      rw (behind (length (retrace p)) (counts (retrace p))) (
+        refusal-refuses (plateRows p) r m _ h,
+        after-rows (plateRows p) lacks r m _ c _ path h,
+        after-rows (plateRows p) lacks r m _ c _ ms h,
+        work-same _ work,
+        work-same _ ds,
+      )
 
-  module _ (m k : ℕ) (sound : checked (p .points) (p .lengths) (p .layers) (gives m) ≡ gives k) where
-    passed : {A : Type 0} (later : Answer A) → checked (p .points) (p .lengths) (p .layers) later ≡ later
-    passed later = checked-passes (p .points) (p .lengths) (p .layers) m k later sound
+  module _ (m k : ℕ) (sound : refusedBy (plateRows p) (gives m) ≡ gives k) where
+    passed : {A : Type 0} (n : ℕ) (a : A) → refusedBy (retraceRows p (length work) (length ds) c n) (gives a) ≡ refusedBy (rows n) (gives a)
+    passed n a = behind n a ∙ rows-pass (plateRows p) (rows-give (plateRows p) _ k sound .0) _
 
-    pub met-short : length work < c + 4 * sum (p .lengths) + 8 * length (p .lengths) + 16384 → Met p path ms work ds (refuses 5 0) path ms work ds
-    unfolding retraceCall retraceWork refuseIf after pick
+    pub met-short : length work < retraceWork p c → Met p path ms work ds (refuses 5 0) path ms work ds
+    unfolding retraceCall refusedBy workShort after pick
     met-short h =
-        rw (passed _, lt-ltb (length work) (c + 4 * sum (p .lengths) + 8 * length (p .lengths) + 16384) h)
-        (refl, refl, refl, work-same _ work, work-same _ ds)
+        rw (passed (length (retrace p)) (counts (retrace p)), lt-ltb (length work) (retraceWork p c) h) (refl, refl, refl, work-same _ work, work-same _ ds)
 
-    module _ (enough : c + 4 * sum (p .lengths) + 8 * length (p .lengths) + 16384 ≤ length work) where
+    module _ (enough : retraceWork p c ≤ length work) where
       pub met-short-distances : length ds < length (p .lengths) → Met p path ms work ds (refuses 5 1) path ms work ds
-      unfolding retraceCall retraceWork refuseIf after pick
+      unfolding retraceCall refusedBy workShort after pick
       met-short-distances h =
-          rw (passed _, le-ltb (length work) (c + 4 * sum (p .lengths) + 8 * length (p .lengths) + 16384) enough, lt-ltb (length ds) (length (p .lengths)) h)
+          rw (passed (length (retrace p)) (counts (retrace p)), le-ltb (length work) (retraceWork p c) enough, lt-ltb (length ds) (length (p .lengths)) h)
           (refl, refl, refl, work-same _ work, work-same _ ds)
 
       -- the path was joined, in room for c points
       module _ (enough-ds : length (p .lengths) ≤ length ds) (n : ℕ) (path′ : List Float) (ms′ work′ : List ℕ) (ds′ : List Float)
           (w : Wrote (p .points) (retrace p) c n path path′ ms ms′) where
         pub met-full : c < n → Met p path ms work ds (refuses 6 c) path′ ms′ work′ ds′
-        unfolding retraceCall retraceWork fitted refuseIf after pick freesWork WorkKept
+        unfolding retraceCall refusedBy workShort full after pick freesWork WorkKept
         met-full h =
             rw (
-              passed _,
-              le-ltb (length work) (c + 4 * sum (p .lengths) + 8 * length (p .lengths) + 16384) enough,
+              passed (length (retrace p)) (counts (retrace p)),
+              le-ltb (length work) (retraceWork p c) enough,
               le-ltb (length ds) (length (p .lengths)) enough-ds,
               lt-ltb c (length (retrace p)) (omega (arith, w .counted)),
               ← path-taken (p .points) c (retrace p),
@@ -117,12 +127,12 @@ module _ (p : Plate) (path : List Float) (ms work : List ℕ) (ds : List Float) 
             (refl, w .points, w .kinds, λ t. absurd t, λ t. absurd t)
 
         pub met-whole : n ≤ c → (r : Counts) → r ≡ counts (retrace p) → Met p path ms work ds (gives r) path′ ms′ work′ ds′
-        unfolding retraceCall retraceWork fitted refuseIf after WorkKept
+        unfolding retraceCall refusedBy workShort full after pick WorkKept
         met-whole h r e =
             let all = take-all c (retrace p) (omega (arith, w .counted)) in
             rw (
-              passed _,
-              le-ltb (length work) (c + 4 * sum (p .lengths) + 8 * length (p .lengths) + 16384) enough,
+              passed (length (retrace p)) (counts (retrace p)),
+              le-ltb (length work) (retraceWork p c) enough,
               le-ltb (length ds) (length (p .lengths)) enough-ds,
               le-ltb c (length (retrace p)) (omega (arith, w .counted)),
               e,

@@ -3,10 +3,9 @@ use Prim.Native.Nat.{ℕ, _*_}
 use mathlib.Core.Bool.{Bool}
 use mathlib.Core.List.{List, [], _∷_, map}
 use mathlib.Core.Option.{Option, none, some}
-use lib.Dec.{ltb}
 use lib.ListN.{length}
 use lib.Ieee.{Float}
-use Rattle.rules.specs.HandedOver.{Plate, orderRoom, straightRoom, retraceRoom, Answer, gives, refuses, distanceLimit, firstOff, refuseIf, checked, orderWork, retraceWork, fitted, after}
+use Rattle.rules.specs.HandedOver.{Plate, orderRoom, straightRoom, retraceRoom, Answer, gives, refuses, distanceLimit, refusedBy, outOfRange, plateRows, orderRows, retraceRows, after}
 use Rattle.rules.specs.Distances.{distanceSquared, distance}
 use Rattle.rules.specs.Start.{Oriented, start}
 use Rattle.rules.specs.RetraceAndMarks.{cutKind, backStepKind, jumpKind, touchKind, Step, retrace, coordinates, marks, marksOf}
@@ -16,9 +15,7 @@ use Rattle.rules.specs.declared.Counts.{Counts}
 
 -- squared and plain distance
 unfoldable pub distanceCall : Point → Point → Answer (Float × Float)
-distanceCall a b =
-    let place = firstOff distanceLimit 0 (a .x ∷ a .y ∷ b .x ∷ b .y ∷ []) in
-    refuseIf (ltb place 4) 4 place (gives (distanceSquared a b, distance a b))
+distanceCall a b = refusedBy (outOfRange distanceLimit (a .x ∷ a .y ∷ b .x ∷ b .y ∷ []) ∷ []) (gives (distanceSquared a b, distance a b))
 
 -- contour number, and whether it is reversed
 unfoldable pub startOr : Option Oriented → Answer (ℕ × Bool)
@@ -26,7 +23,7 @@ startOr none = refuses 7 0
 startOr (some s) = gives (s .contour .number, s .reversed)
 
 unfoldable pub startCall : Plate → Answer (ℕ × Bool)
-startCall p = checked (p .points) (p .lengths) (p .layers) (startOr (start p))
+startCall p = refusedBy (plateRows p) (startOr (start p))
 
 -- `slice` is the order slice, w the length of the work slice
 pub record OrderOutcome : Type 0 where
@@ -37,7 +34,7 @@ unfoldable pub orderCall : Plate → List ℕ → ℕ → OrderOutcome
 orderCall p slice w =
     let c = orderRoom (length slice) in
     let r = order p in
-    let a = checked (p .points) (p .lengths) (p .layers) (orderWork p w (fitted c (length r) (length r))) in
+    let a = refusedBy (orderRows p w c (length r)) (gives (length r)) in
     record { answer = a; order = after a c (entries r) slice }
 
 -- `path` is the path slice, w the length of the work slice
@@ -49,7 +46,7 @@ unfoldable pub straightCall : Plate → List Float → ℕ → StraightOutcome
 straightCall p path w =
     let c = straightRoom (length path) in
     let r = straight (order p) in
-    let a = checked (p .points) (p .lengths) (p .layers) (orderWork p w (fitted c (length r) (length r))) in
+    let a = refusedBy (orderRows p w c (length r)) (gives (length r)) in
     record { answer = a; path = after a c (coordinates (p .points) r) path }
 
 -- path points, and the cuts, back-steps, jumps and touches that the marks have
@@ -78,5 +75,5 @@ unfoldable pub retraceCall : Plate → List Float → List ℕ → ℕ → ℕ �
 retraceCall p path ms w d =
     let c = retraceRoom (length path) (length ms) in
     let r = retrace p in
-    let a = checked (p .points) (p .lengths) (p .layers) (retraceWork p c w d (fitted c (length r) (counts r))) in
+    let a = refusedBy (retraceRows p w d c (length r)) (gives (counts r)) in
     record { answer = a; path = after a c (coordinates (p .points) (vertices r)) path; marks = after a c (marks r) ms }

@@ -11,13 +11,13 @@ use lib.ListN.{length, replicate, getD}
 use lib.IntN.{negsuc}
 use lib.Ieee.{Float, nan, inf, fin, neg, le, eq, ofInt}
 use Rattle.rules.specs.Tools.{pick, sum, any, every, firstFailing, upFrom}
-use Rattle.rules.specs.HandedOver.{Contour, at, contoursFrom, contoursOf, Answer, gives, refuses, inRange, plateLimit, firstOff, refuseIf}
-use Rattle.rules.specs.HandedOver.{counted, onPlate, checkedContours, freesWork, WorkKept}
+use Rattle.rules.specs.HandedOver.{Contour, at, contoursFrom, contoursOf, Answer, gives, refuses, inRange, plateLimit, firstOff, refusedBy}
+use Rattle.rules.specs.HandedOver.{tooManyContours, tooManyPoints, miscounted, outOfRange, offThePlate, workShort, contourRows, freesWork, WorkKept}
 use Rattle.rules.specs.Bits.{sameExponent, sameFloat, samePoint}
 use Rattle.rules.specs.RetraceAndMarks.{coincide, landingKind, countMarks}
 use Rattle.rules.specs.PathStatement.{Among, Of, kindAt, referenceAt, cutsOf}
 use Rattle.rules.specs.PathCheck.{enters, isOf, entriesOf, landsFresh, goes, cutsFresh, reverses, keepsAfter, keepsRules, complete}
-use Rattle.rules.specs.PathCheck.{matched, checkWork, drawn, checkable, checkCall, marksBefore, RulesAt, DividesByPoints, LeftOut, FirstFault}
+use Rattle.rules.specs.PathCheck.{miscountedPath, notDrawn, checkRows, checkCall, marksBefore, RulesAt, DividesByPoints, LeftOut, FirstFault}
 use Rattle.rules.specs.MarkedPlates.{whole, _∣_, along, pointsOf, pairs}
 use Rattle.rules.specs.declared.Point.{Point}
 
@@ -177,11 +177,11 @@ unfolding
     -- floats
     neg le eq ofInt
     -- Tools, HandedOver
-    pick sum any every firstFailing at contoursFrom inRange plateLimit firstOff refuseIf counted onPlate checkedContours
+    pick sum any every firstFailing at contoursFrom inRange plateLimit firstOff refusedBy tooManyContours tooManyPoints miscounted outOfRange offThePlate workShort contourRows
     -- Bits, RetraceAndMarks, PathStatement
     sameExponent sameFloat samePoint coincide landingKind countMarks kindAt referenceAt cutsOf
     -- PathCheck
-    enters isOf entriesOf landsFresh goes cutsFresh reverses keepsAfter keepsRules complete matched checkWork drawn checkable checkCall
+    enters isOf entriesOf landsFresh goes cutsFresh reverses keepsAfter keepsRules complete miscountedPath notDrawn checkRows checkCall
 paths = refl
 
 -- of the refusals 1 to 13, work is free after 6 and 12 alone

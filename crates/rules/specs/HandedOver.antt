@@ -100,17 +100,32 @@ pub data Answer (A : Type 0) : Type 0 where
   gives : A → Answer A
   refuses : ℕ → ℕ → Answer A
 
--- the paper's number and place of each refusal
+-- the paper's number of each refusal
+unfoldable pub numberOf : Refusal → ℕ
+numberOf TooManyContours = 1
+numberOf TooManyPoints = 2
+numberOf Miscounted = 3
+numberOf (OffThePlate place) = 4
+numberOf (WorkShort place) = 5
+numberOf (Full place) = 6
+numberOf Blank = 7
+numberOf (NotDrawn place) = 12
+numberOf (BadLayer place) = 13
+
+-- and its place
+unfoldable pub placeOf : Refusal → ℕ
+placeOf TooManyContours = 0
+placeOf TooManyPoints = 0
+placeOf Miscounted = 0
+placeOf (OffThePlate place) = place
+placeOf (WorkShort place) = place
+placeOf (Full place) = place
+placeOf Blank = 0
+placeOf (NotDrawn place) = place
+placeOf (BadLayer place) = place
+
 unfoldable pub refusal : {A : Type 0} → Refusal → Answer A
-refusal TooManyContours = refuses 1 0
-refusal TooManyPoints = refuses 2 0
-refusal Miscounted = refuses 3 0
-refusal (OffThePlate place) = refuses 4 place
-refusal (WorkShort place) = refuses 5 place
-refusal (Full place) = refuses 6 place
-refusal Blank = refuses 7 0
-refusal (NotDrawn place) = refuses 12 place
-refusal (BadLayer place) = refuses 13 place
+refusal r = refuses (numberOf r) (placeOf r)
 
 -- the paper's values for each case of an answer
 unfoldable pub distanceAnswer : DistanceAnswer → Answer (Float × Float)
@@ -160,48 +175,79 @@ unfoldable pub firstBad : ℕ → List ℕ → ℕ
 firstBad i [] = i
 firstBad i (l ∷ ls) = let rest = firstBad (suc i) ls in pick (leb l highestLayer) rest i
 
--- the refusal with this number and place where its condition holds, else what the later conditions say
-unfoldable pub refuseIf : {A : Type 0} → Bool → ℕ → ℕ → Answer A → Answer A
-refuseIf true number place later = refuses number place
-refuseIf false number place later = later
+-- ---- refusals, in their order
 
--- refusals 1 to 3, of points and lengths
-unfoldable pub counted : {A : Type 0} → List Float → List ℕ → Answer A → Answer A
-counted xs ns later =
-    refuseIf (ltb 4096 (length ns)) 1 0
-    (refuseIf (ltb 65536 (sum ns)) 2 0
-    (refuseIf (not (eqb (length xs) (2 * sum ns))) 3 0 later))
+-- where the test holds, a call is refused with this number and place
+pub record RefusalRow : Type 0 where
+  pub test : Bool
+  pub number : ℕ
+  pub place : ℕ
 
--- refusal 13, of the layers of m contours: a wrong length of the slice comes first
-unfoldable pub layered : {A : Type 0} → ℕ → List ℕ → Answer A → Answer A
-layered m ls later =
-    refuseIf (not (eqb (length ls) m)) 13 m
-    (refuseIf (ltb (firstBad 0 ls) (length ls)) 13 (firstBad 0 ls) later)
+abbrev pub row : Bool → ℕ → ℕ → RefusalRow
+row test number place = record { test = test; number = number; place = place }
 
--- refusal 4, of the points
-unfoldable pub onPlate : {A : Type 0} → List Float → Answer A → Answer A
-onPlate xs later = refuseIf (ltb (firstOff plateLimit 0 xs) (length xs)) 4 (firstOff plateLimit 0 xs) later
+-- the first row whose test holds refuses; where none does, the answer stands
+unfoldable pub refusedBy : {A : Type 0} → List RefusalRow → Answer A → Answer A
+refusedBy [] answer = answer
+refusedBy (r ∷ rs) answer = pick (r .test) (refuses (r .number) (r .place)) (refusedBy rs answer)
 
--- refusals 1 to 4, of contours without layers
-unfoldable pub checkedContours : {A : Type 0} → List Float → List ℕ → Answer A → Answer A
-checkedContours xs ns later = counted xs ns (onPlate xs later)
+unfoldable pub tooManyContours : List ℕ → RefusalRow
+tooManyContours ns = row (ltb 4096 (length ns)) 1 0
 
--- refusals 1 to 3, 13 and 4
-unfoldable pub checked : {A : Type 0} → List Float → List ℕ → List ℕ → Answer A → Answer A
-checked xs ns ls later = counted xs ns (layered (length ns) ls (onPlate xs later))
+unfoldable pub tooManyPoints : List ℕ → RefusalRow
+tooManyPoints ns = row (ltb 65536 (sum ns)) 2 0
 
--- refusal 5: work and distances are the lengths of the u32 and the f64 work slice
-unfoldable pub orderWork : {A : Type 0} → Plate → ℕ → Answer A → Answer A
-orderWork p work later = refuseIf (ltb work (length (p .lengths))) 5 0 later
+unfoldable pub miscounted : List Float → List ℕ → RefusalRow
+miscounted xs ns = row (not (eqb (length xs) (2 * sum ns))) 3 0
 
-unfoldable pub retraceWork : {A : Type 0} → Plate → ℕ → ℕ → ℕ → Answer A → Answer A
-retraceWork p c work distances later =
-    refuseIf (ltb work (c + 4 * sum (p .lengths) + 8 * length (p .lengths) + 16384)) 5 0
-    (refuseIf (ltb distances (length (p .lengths))) 5 1 later)
+-- layers that are not one for each of the m contours; and the first contour whose layer is above the highest
+unfoldable pub badLayerCount : ℕ → List ℕ → RefusalRow
+badLayerCount m ls = row (not (eqb (length ls) m)) 13 m
 
--- refusal 6: n points or entries where C fit
-unfoldable pub fitted : {A : Type 0} → ℕ → ℕ → A → Answer A
-fitted c n result = refuseIf (ltb c n) 6 c (gives result)
+unfoldable pub badLayer : List ℕ → RefusalRow
+badLayer ls = row (ltb (firstBad 0 ls) (length ls)) 13 (firstBad 0 ls)
+
+unfoldable pub outOfRange : Float → List Float → RefusalRow
+outOfRange limit xs = row (ltb (firstOff limit 0 xs) (length xs)) 4 (firstOff limit 0 xs)
+
+unfoldable pub offThePlate : List Float → RefusalRow
+offThePlate xs = outOfRange plateLimit xs
+
+-- a work slice of w numbers where `needed` are asked for
+unfoldable pub workShort : ℕ → ℕ → ℕ → RefusalRow
+workShort w needed place = row (ltb w needed) 5 place
+
+-- n points or entries where C fit
+unfoldable pub full : ℕ → ℕ → RefusalRow
+full c n = row (ltb c n) 6 c
+
+-- 1 to 4, of contours without layers
+unfoldable pub contourRows : List Float → List ℕ → List RefusalRow
+contourRows xs ns = tooManyContours ns ∷ tooManyPoints ns ∷ miscounted xs ns ∷ offThePlate xs ∷ []
+
+-- 1 to 3, 13 and 4, of contours with layers
+unfoldable pub inputRows : List Float → List ℕ → List ℕ → List RefusalRow
+inputRows xs ns ls =
+    tooManyContours ns
+    ∷ tooManyPoints ns
+    ∷ miscounted xs ns
+    ∷ badLayerCount (length ns) ls
+    ∷ badLayer ls
+    ∷ offThePlate xs
+    ∷ []
+
+abbrev pub plateRows : Plate → List RefusalRow
+plateRows p = inputRows (p .points) (p .lengths) (p .layers)
+
+-- and then 5 and 6: w and d are the lengths of the u32 and the f64 work slice, c is C, and n points or entries are to be written
+unfoldable pub orderRows : Plate → ℕ → ℕ → ℕ → List RefusalRow
+orderRows p w c n = plateRows p ++ (workShort w (length (p .lengths)) 0 ∷ full c n ∷ [])
+
+unfoldable pub retraceWork : Plate → ℕ → ℕ
+retraceWork p c = c + 4 * sum (p .lengths) + 8 * length (p .lengths) + 16384
+
+unfoldable pub retraceRows : Plate → ℕ → ℕ → ℕ → ℕ → List RefusalRow
+retraceRows p w d c n = plateRows p ++ (workShort w (retraceWork p c) 0 ∷ workShort d (length (p .lengths)) 1 ∷ full c n ∷ [])
 
 -- ---- slices afterwards
 

@@ -10,7 +10,7 @@ use lib.Dec.{eqb}
 use lib.ListN.{length, getD}
 use lib.Ieee.{Float, nan, inf, fin, up, down}
 use Rattle.rules.specs.Tools.{pick}
-use Rattle.rules.specs.HandedOver.{IsF64, Plate, at, Answer, gives, refuses, checked}
+use Rattle.rules.specs.HandedOver.{IsF64, Plate, at, Answer, gives, refuses, refusedBy, plateRows}
 use Rattle.rules.specs.Distances.{distanceSquared}
 use Rattle.rules.specs.Box.{box}
 use Rattle.rules.specs.RetraceAndMarks.{retrace, coordinates, marks}
@@ -56,7 +56,7 @@ AllF64 xs = (i : ℕ) → i < length xs → IsF64 (getD xs i nan)
 
 -- no refusal of what is handed over: 1 to 4 and 13
 unfoldable pub IsAccepted : Plate → Type 0
-IsAccepted p = checked {A = Unit {0}} (p .points) (p .lengths) (p .layers) (gives tt) ≡ gives tt
+IsAccepted p = refusedBy {A = Unit {0}} (plateRows p) (gives tt) ≡ gives tt
 
 -- of the path that the rules give an accepted plate, however long it is
 unfoldable pub HowNearByRules : Type 0

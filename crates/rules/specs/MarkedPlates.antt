@@ -14,8 +14,8 @@ use lib.ListN.{length, replicate}
 use lib.Ieee.{Float, nan, inf, fin, binary64, round, neg, add, sub, mul, div, rem, le, eq, ofInt, toUnsigned}
 use Rattle.rules.specs.Tools.{pick, sum, without, having, least, leads, winner, highestLayer, lowest, foremost, lesser, greater}
 use Rattle.rules.specs.HandedOver.{Plate, plate, at, contoursFrom, contours, vertexAt, layerAt, orderRoom, straightRoom, retraceRoom}
-use Rattle.rules.specs.HandedOver.{Answer, gives, refuses, inRange, plateLimit, distanceLimit, firstOff, firstBad, refuseIf, counted, layered, onPlate, checked, orderWork, retraceWork}
-use Rattle.rules.specs.HandedOver.{fitted, over, after}
+use Rattle.rules.specs.HandedOver.{Answer, gives, refuses, inRange, plateLimit, distanceLimit, firstOff, firstBad, refusedBy, tooManyContours, tooManyPoints, miscounted}
+use Rattle.rules.specs.HandedOver.{badLayerCount, badLayer, outOfRange, offThePlate, workShort, full, inputRows, orderRows, retraceWork, retraceRows, over, after}
 use Rattle.rules.specs.Distances.{mulAdd, rootBy, floorRoot, roundRoot, sqrt, distanceSquared, distance}
 use Rattle.rules.specs.Start.{half, centre, oriented, ends, layerOf, beats, start}
 use Rattle.rules.specs.Box.{widen, boxFrom, box}
@@ -25,7 +25,7 @@ use Rattle.rules.specs.SamplesAndCache.{sampledAfter, sampled, cellNumbe
 use Rattle.rules.specs.SamplesAndCache.{met, listed, listedRow, listedSquare, listedAround, cellsAround, queryIn, updatedIn, updated}
 use Rattle.rules.specs.SamplesAndCache.{waiting, askPath, keep, seed, update}
 use Rattle.rules.specs.RetraceAndMarks.{coincide, landingKind, land, cutUp, cutDown, backStep, stepAt, vertexOf, walkTo, walkBack, forward as forwardSteps, backward}
-use Rattle.rules.specs.RetraceAndMarks.{returnTo, bothWays, emit, entryOf, begin, pathPoints, closer, waitingLayer, choose, numberOf, placeIn, entered, joinAll}
+use Rattle.rules.specs.RetraceAndMarks.{returnTo, bothWays, emit, entryOf, begin, pathPoints, closer, waitingLayer, choose, waitingNumber, placeIn, entered, joinAll}
 use Rattle.rules.specs.RetraceAndMarks.{retraceFrom, retraceOf, retrace, coordinates, marks, countMarks, marksOf}
 use Rattle.rules.specs.OrderAndStraight.{lastEnd, nearerSense, nearerEnd, contourNumber, orderAfter, orderFrom, orderOf, order, entries, straight}
 use Rattle.rules.specs.Calls.{distanceCall, startOr, startCall, orderCall, straightCall, counts, vertices, retraceCall}
@@ -778,7 +778,8 @@ unfolding
     neg add sub mul div rem le eq ofInt toUnsigned
     -- Tools, HandedOver
     pick sum without having least leads winner highestLayer lowest foremost lesser greater plate at contoursFrom contours vertexAt layerAt orderRoom straightRoom retraceRoom
-    inRange plateLimit distanceLimit firstOff firstBad refuseIf counted layered onPlate checked orderWork retraceWork fitted over after
+    inRange plateLimit distanceLimit firstOff firstBad refusedBy tooManyContours tooManyPoints miscounted badLayerCount badLayer outOfRange offThePlate
+    workShort full inputRows orderRows retraceWork retraceRows over after
     -- Distances, Start
     mulAdd rootBy floorRoot roundRoot sqrt distanceSquared distance half centre oriented ends layerOf beats start
     -- GridAndNearest
@@ -788,7 +789,7 @@ unfolding
     sampledAfter sampled cellNumber cellAt sampleAt samplesFrom samples cache cached querySample seeded
     met listed listedRow listedSquare listedAround cellsAround queryIn updatedIn updated waiting askPath keep seed update
     -- RetraceAndMarks
-    coincide landingKind land cutUp cutDown backStep stepAt vertexOf walkTo walkBack forwardSteps backward returnTo bothWays emit entryOf begin pathPoints closer waitingLayer choose numberOf placeIn
+    coincide landingKind land cutUp cutDown backStep stepAt vertexOf walkTo walkBack forwardSteps backward returnTo bothWays emit entryOf begin pathPoints closer waitingLayer choose waitingNumber placeIn
     entered joinAll retraceFrom retraceOf retrace coordinates marks countMarks marksOf
     -- OrderAndStraight, Calls
     lastEnd nearerSense nearerEnd contourNumber orderAfter orderFrom orderOf order entries straight

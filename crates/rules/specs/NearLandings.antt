@@ -15,7 +15,8 @@ use lib.IntN.{pos, negsuc}
 use lib.Ieee.{Float, nan, inf, fin, round, fits, neg, add, sub, mul, div, rem, lt, le, eq, ofInt, toUnsigned}
 use Rattle.rules.specs.Tools.{pick, sum, without, having, least, leads, winner, highestLayer, lowest, foremost, lesser, greater}
 use Rattle.rules.specs.HandedOver.{Plate, plate, at, contoursFrom, contours, vertexAt, layerAt, Answer, gives, refuses, retraceRoom}
-use Rattle.rules.specs.HandedOver.{counted, checked, layered, onPlate, firstOff, firstBad, inRange, plateLimit, refuseIf, retraceWork, fitted, after, over}
+use Rattle.rules.specs.HandedOver.{firstOff, firstBad, inRange, plateLimit, refusedBy, tooManyContours, tooManyPoints, miscounted, badLayerCount, badLayer, outOfRange, offThePlate}
+use Rattle.rules.specs.HandedOver.{workShort, full, inputRows, retraceWork, retraceRows, after, over}
 use Rattle.rules.specs.Distances.{mulAdd, rootBy, floorRoot, roundRoot, sqrt, distanceSquared, distance}
 use Rattle.rules.specs.Start.{half, centre, oriented, ends, layerOf, beats, start}
 use Rattle.rules.specs.Box.{widen, boxFrom, box}
@@ -25,7 +26,7 @@ use Rattle.rules.specs.SamplesAndCache.{sampledAfter, sampled, cellNumbe
 use Rattle.rules.specs.SamplesAndCache.{met, listed, listedRow, listedSquare, listedAround, cellsAround, queryIn, updatedIn, updated}
 use Rattle.rules.specs.SamplesAndCache.{waiting, askPath, keep, seed, update}
 use Rattle.rules.specs.RetraceAndMarks.{coincide, landingKind, land, cutUp, cutDown, backStep, stepAt, vertexOf, walkTo, walkBack, forward, backward}
-use Rattle.rules.specs.RetraceAndMarks.{returnTo, bothWays, emit, entryOf, begin, pathPoints, closer, waitingLayer, choose, numberOf, placeIn, entered, joinAll}
+use Rattle.rules.specs.RetraceAndMarks.{returnTo, bothWays, emit, entryOf, begin, pathPoints, closer, waitingLayer, choose, waitingNumber, placeIn, entered, joinAll}
 use Rattle.rules.specs.RetraceAndMarks.{retraceFrom, retraceOf, retrace, coordinates, marks, marksOf, countMarks}
 use Rattle.rules.specs.Calls.{vertices, counts, retraceCall}
 use Rattle.rules.specs.PathStatement.{kindAt, IsJumpOrTouch}
@@ -170,7 +171,7 @@ unfolding
     sampledAfter sampled cellNumber cellAt sampleAt samplesFrom samples cache cached querySample seeded
     met listed listedRow listedSquare listedAround cellsAround queryIn updatedIn updated waiting askPath keep seed update
     coincide landingKind land cutUp cutDown backStep stepAt vertexOf walkTo walkBack forward backward returnTo bothWays emit entryOf begin pathPoints
-    closer waitingLayer choose numberOf placeIn entered joinAll retraceFrom retraceOf retrace coordinates marks vertices
+    closer waitingLayer choose waitingNumber placeIn entered joinAll retraceFrom retraceOf retrace coordinates marks vertices
 passed-over = (refl, refl, tt)
 
 pub passed-near : LandingsNear passedPath passedMarks 7
@@ -239,7 +240,8 @@ asked-f64 (suc (suc (suc (suc (suc (suc i)))))) l = absurd (omega (arith, l))
 
 pub asked : (inARow .box ≡ box (inARow .points)) × IsAccepted inARow
 unfolding
-    IsAccepted inARow checked counted layered onPlate firstOff firstBad inRange plateLimit refuseIf
+    IsAccepted inARow refusedBy inputRows tooManyContours tooManyPoints miscounted badLayerCount badLayer outOfRange offThePlate
+    firstOff firstBad inRange plateLimit
     decimal tenths _∣_ along pointsOf drawn plate round neg le pick sum highestLayer
 asked = (refl, refl)
 
@@ -254,8 +256,8 @@ pub given :
     × (HowNear → LandingsNear (along tenths ((0, 0) ∷ (1, 0) ∷ (2, 0) ∷ (9, 9) ∷ [])) (pairs ((0, 0) ∷ (3, 1) ∷ (3, 2) ∷ (9, 9) ∷ [])) 3)
     × (HowNear → LandingsNear (along tenths ((0, 0) ∷ (1, 0) ∷ [])) (pairs ((0, 0) ∷ (3, 1) ∷ (9, 9) ∷ [])) 2)
 unfolding
-    HowNearByRules HowNear inARow retraceCall retraceRoom retraceWork fitted after over counts marksOf countMarks writtenPoints
-    checked counted layered onPlate firstOff firstBad inRange plateLimit refuseIf
+    HowNearByRules HowNear inARow retraceCall retraceRoom retraceWork retraceRows workShort full after over counts marksOf countMarks writtenPoints
+    refusedBy inputRows tooManyContours tooManyPoints miscounted badLayerCount badLayer outOfRange offThePlate firstOff firstBad inRange plateLimit
     whole decimal tenths _∣_ along pointsOf drawn pairs
     round fits neg add sub mul div rem lt le eq ofInt toUnsigned
     pick sum without having least leads winner highestLayer lowest foremost lesser greater plate at contoursFrom contours vertexAt layerAt
@@ -265,7 +267,7 @@ unfolding
     sampledAfter sampled cellNumber cellAt sampleAt samplesFrom samples cache cached querySample seeded
     met listed listedRow listedSquare listedAround cellsAround queryIn updatedIn updated waiting askPath keep seed update
     coincide landingKind land cutUp cutDown backStep stepAt vertexOf walkTo walkBack forward backward returnTo bothWays emit entryOf begin pathPoints
-    closer waitingLayer choose numberOf placeIn entered joinAll retraceFrom retraceOf retrace coordinates marks vertices
+    closer waitingLayer choose waitingNumber placeIn entered joinAll retraceFrom retraceOf retrace coordinates marks vertices
 given = (
   λ h. h inARow asked-f64 (asked .0) (asked .1),
   λ h. h inARow (along tenths ((9, 9) ∷ (9, 9) ∷ (9, 9) ∷ (9, 9) ∷ [])) (pairs ((9, 9) ∷ (9, 9) ∷ (9, 9) ∷ (9, 9) ∷ [])) 16500 3 asked-f64 (asked .0),

@@ -5,13 +5,13 @@
 use mathlib.Core.Path.{_≡_}
 use mathlib.Core.Logic.{_⊎_}
 use mathlib.Core.Bool.{Bool, true, false, not, _&&_, _||_}
-use mathlib.Core.List.{List, []}
+use mathlib.Core.List.{List, [], _∷_, _++_}
 use Prim.Native.Nat.{ℕ, zero, suc, _+_, _*_, _/_, _≤_, _<_}
 use lib.Dec.{leb, ltb, eqb}
 use lib.ListN.{length, take}
 use lib.Ieee.{Float}
 use Rattle.rules.specs.Tools.{sum, any, every, firstFailing, upFrom}
-use Rattle.rules.specs.HandedOver.{Plate, Contour, at, contoursOf, contours, Answer, gives, refuses, refuseIf, checkedContours}
+use Rattle.rules.specs.HandedOver.{Plate, Contour, at, contoursOf, contours, Answer, gives, refuses, RefusalRow, row, refusedBy, workShort, contourRows}
 use Rattle.rules.specs.Bits.{samePoint}
 use Rattle.rules.specs.RetraceAndMarks.{startKind, cutKind, backStepKind, jumpKind, touchKind, landingKind, countMarks, marksOf}
 use Rattle.rules.specs.Calls.{retraceCall}
@@ -108,27 +108,23 @@ complete cs ms = every (λ c. ltb 0 (entriesOf c ms) && every (λ v. ltb 0 (cuts
 
 -- ---- the refusals, and the call
 
--- refusal 3, of a path slice that is odd, or of marks that are not two for each point
-unfoldable pub matched : {A : Type 0} → List Float → List ℕ → Answer A → Answer A
-matched path ms later = let n = length path / 2 in refuseIf (not (eqb (length path) (2 * n) && eqb (length ms) (2 * n))) 3 0 later
+-- a path slice that is odd, or marks that are not two for each point
+unfoldable pub miscountedPath : List Float → List ℕ → RefusalRow
+miscountedPath path ms = let n = length path / 2 in row (not (eqb (length path) (2 * n) && eqb (length ms) (2 * n))) 3 0
 
--- refusal 5: w is the length of the work slice
-unfoldable pub checkWork : {A : Type 0} → List ℕ → ℕ → Answer A → Answer A
-checkWork ns w later = refuseIf (ltb w (sum ns + length ns)) 5 0 later
-
--- refusal 12, of n path points: the first that breaks a rule, or n where none does and something is left out
-unfoldable pub drawn : {A : Type 0} → List Contour → List Float → ℕ → List Float → List ℕ → Answer A → Answer A
-drawn cs xs n path ms later =
+-- n path points: the first that breaks a rule, or n where none does and something is left out
+unfoldable pub notDrawn : List Contour → List Float → ℕ → List Float → List ℕ → RefusalRow
+notDrawn cs xs n path ms =
     let place = firstFailing (keepsRules cs xs path ms) 0 n in
-    refuseIf (ltb place n || not (complete cs ms)) 12 place later
+    row (ltb place n || not (complete cs ms)) 12 place
 
--- refusals 1 to 4 of the plate, then 3 of path and marks, then 5
-unfoldable pub checkable : {A : Type 0} → List Float → List ℕ → List Float → List ℕ → ℕ → Answer A → Answer A
-checkable xs ns path ms w later = checkedContours xs ns (matched path ms (checkWork ns w later))
+-- 1 to 4 of the plate, then 3 of path and marks, then 5
+unfoldable pub checkRows : List Float → List ℕ → List Float → List ℕ → ℕ → List RefusalRow
+checkRows xs ns path ms w = contourRows xs ns ++ (miscountedPath path ms ∷ workShort w (sum ns + length ns) 0 ∷ [])
 
 -- xs and ns are the plate's points and lengths, `path` and `ms` the path and its marks, w is the length of the work slice
 unfoldable pub checkCall : List Float → List ℕ → List Float → List ℕ → ℕ → Answer (Unit {0})
-checkCall xs ns path ms w = checkable xs ns path ms w (drawn (contoursOf ns) xs (length path / 2) path ms (gives tt))
+checkCall xs ns path ms w = refusedBy (checkRows xs ns path ms w ++ (notDrawn (contoursOf ns) xs (length path / 2) path ms ∷ [])) (gives tt)
 
 -- ---- what is to be proved
 
@@ -139,7 +135,7 @@ DividedByPoints =
 
 -- a call that refusals 1 to 5 let pass
 abbrev pub Checkable : List Float → List ℕ → List Float → List ℕ → ℕ → Type 0
-Checkable xs ns path ms w = checkable {A = Unit {0}} xs ns path ms w (gives tt) ≡ gives tt
+Checkable xs ns path ms w = refusedBy {A = Unit {0}} (checkRows xs ns path ms w) (gives tt) ≡ gives tt
 
 -- such a call accepts exactly where the division holds
 unfoldable pub CheckDecides : Type 0

@@ -125,8 +125,8 @@ waitingLayer p w = layerAt p (w .contour)
 unfoldable pub choose : Plate → List Waiting → Option Waiting
 choose p ws = foremost (waitingLayer p) closer ws
 
-unfoldable pub numberOf : Waiting → ℕ
-numberOf w = w .contour .number
+unfoldable pub waitingNumber : Waiting → ℕ
+waitingNumber w = w .contour .number
 
 -- the place that was found (there is one: the path has a point by then)
 unfoldable pub placeIn : Nearest → ℕ
@@ -150,13 +150,13 @@ joinAll p g (suc n) ws path =
       | some w ↦
           let next = entered p g path w in
           let cells = cellsAround (vertexAt p (w .contour)) g (w .contour .last) in
-          joinAll p g n (map (update p g (pathPoints p next) cells) (without numberOf (numberOf w) ws)) next
+          joinAll p g n (map (update p g (pathPoints p next) cells) (without waitingNumber (waitingNumber w) ws)) next
     ]
 
 unfoldable pub retraceFrom : Plate → SpatialGrid → Oriented → List Contour → List Step
 retraceFrom p g s cs =
     let path = begin s in
-    let ws = without numberOf (s .contour .number) (map (waiting p g) cs) in
+    let ws = without waitingNumber (s .contour .number) (map (waiting p g) cs) in
     joinAll p g (length ws) (map (seed p g (pathPoints p path)) ws) path
 
 -- the whole path of a plate; with no contour it is empty

@@ -5,10 +5,10 @@ use native.Mathlib.Omega.{arith}
 use mathlib.Core.List.{List}
 use lib.ListN.{length, take, length-take}
 use Rattle.rules.specs.Tools.{sum}
-use Rattle.rules.specs.HandedOver.{Plate, plate, gives, refusal, checked, orderAnswer, orderRoom, over}
+use Rattle.rules.specs.HandedOver.{Plate, plate, gives, numberOf, placeOf, refusal, refusedBy, inputRows, orderAnswer, orderRoom, over}
 use Rattle.rules.specs.OrderAndStraight.{order, entries}
 use Rattle.rules.specs.Calls.{orderCall}
-use Rattle.path.specs.Accepted.{checked-gives}
+use Rattle.path.specs.Accepted.{input-gives}
 use Rattle.plate.specs.Answer.{checkedAnswer}
 use Rattle.slices.specs.Outcome.{met-refused, met-short, met-full, met-whole}
 use Rattle.order.proofs.Entries.{Ordered, count-few, entries-first, entries-length}
@@ -23,7 +23,7 @@ handed c = plate (c .args .points .now) (c .args .lengths .now) (c .args .layers
 -- a plate that passed the checks
 sound : (c : tie.After-enum-told) →
     let a = c .before .before .before .before .before .before .before .before .args in
-    checked (a .points .now) (a .lengths .now) (a .layers .now) (gives (sum (a .lengths .now))) ≡ gives (c .enum-told .given .0 .0)
+    refusedBy (inputRows (a .points .now) (a .lengths .now) (a .layers .now)) (gives (sum (a .lengths .now))) ≡ gives (c .enum-told .given .0 .0)
 unfolding checkedAnswer
 sound c = sym (ap checkedAnswer (sym (c .enum-told .given .1)) ∙ c .before .before .check .ensures)
 
@@ -33,7 +33,7 @@ ordered : (c : tie.After-optimize-path-order) →
     Ordered (handed s) (c .optimize-path-order .result) (c .optimize-path-order .last .1 .1 .1 .1 .1 .1 .0)
 unfolding plate
 ordered c =
-    let g = checked-gives _ _ _ _ _ (sound (c .before .before .before)) in
+    let g = input-gives _ _ _ _ _ (sound (c .before .before .before)) in
     record {
       accepted = g .0;
       layered = g .1;
@@ -58,7 +58,7 @@ enum-told : tie.Need-enum-told
 enum-told c = search needs
 
 returns-2 : tie.Need-returns-2
-unfolding orderAnswer orderCall plate refusal
+unfolding orderAnswer orderCall plate numberOf placeOf refusal
 returns-2 c =
     let s = c .before .before .before .before .before .before .before .before .before in
     met-short (handed s) (length (s .args .work .now)) _ _ _ (s .args .order .now) (s .args .work .now) _ _ (sound (c .before)) (omega (arith, c .if1 .taken))
@@ -66,7 +66,7 @@ returns-2 c =
 optimize-path-order-requires : tie.Need-optimize-path-order-requires
 optimize-path-order-requires c κs =
     let s = c .before .before .before .before .before .before .before .before .before .before in
-    let g = checked-gives (s .args .points .now) (s .args .lengths .now) (s .args .layers .now) _ _ (sound (c .before .before)) in
+    let g = input-gives (s .args .points .now) (s .args .lengths .now) (s .args .layers .now) _ _ (sound (c .before .before)) in
     (g .0, omega (arith, c .before .if1 .left), omega (arith, g .1 .counted))
 
 least-requires : tie.Need-least-requires
@@ -103,7 +103,7 @@ written c =
     c .write-entries .ensures ∙ ap (λ (xs : List ℕ). over xs slice) (entries-first (ordered d) (n .result) (length slice / 2) (n .ensures))
 
 returns-3 : tie.Need-returns-3
-unfolding orderAnswer orderCall orderRoom plate refusal
+unfolding orderAnswer orderCall orderRoom plate numberOf placeOf refusal
 returns-3 c =
     let d = c .before .before .before .before .before .before .before .before .before in
     let s = d .before .before .before .before .before .before .before .before .before .before .before in

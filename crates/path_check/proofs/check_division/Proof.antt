@@ -6,7 +6,7 @@ use native.Mathlib.Omega.{arith}
 use borrow.Author.Needs.{needs}
 use borrow.Author.Tests.{not-true, not-false}
 use lib.ListN.{length}
-use Rattle.rules.specs.HandedOver.{Contour, refusal, checkAnswer}
+use Rattle.rules.specs.HandedOver.{Contour, numberOf, placeOf, refusal, checkAnswer}
 use Rattle.rules.specs.PathCheck.{keepsRules, complete}
 use Rattle.path_rules.specs.Tallied.{Tallied}
 use Rattle.path_check.specs.Failing.{first-most}
@@ -44,7 +44,7 @@ same-length : tie.Need-same-length
 same-length c = search needs
 
 returns : tie.Need-returns
-unfolding checkAnswer refusal
+unfolding checkAnswer numberOf placeOf refusal
 returns c =
     let f = c .before .before .before in
     let a = start-of f .args in
@@ -59,7 +59,7 @@ same-length-2 : tie.Need-same-length-2
 same-length-2 c = search needs
 
 returns-2 : tie.Need-returns-2
-unfolding checkAnswer refusal
+unfolding checkAnswer numberOf placeOf refusal
 returns-2 c =
     let f = found-of (kept-of (c .before)) in
     let a = start-of f .args in

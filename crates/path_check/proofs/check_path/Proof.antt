@@ -5,7 +5,7 @@ use native.Mathlib.Omega.{arith}
 use borrow.Author.Needs.{needs}
 use lib.ListN.{length}
 use Rattle.rules.specs.Tools.{sum}
-use Rattle.rules.specs.HandedOver.{gives, refusal, contoursOf, checkedContours, checkAnswer}
+use Rattle.rules.specs.HandedOver.{gives, numberOf, placeOf, refusal, contoursOf, refusedBy, contourRows, checkAnswer}
 use Rattle.path.specs.Accepted.{Accepted, contours-gives}
 use Rattle.plate.specs.Answer.{checkedAnswer}
 use Rattle.slices.specs.Outcome.{work-same}
@@ -31,7 +31,7 @@ label-of c = c .before .before .before .before
 
 passed : (c : tie.After-enum-told) →
     let a = start-of (checked-of c) .args in
-    (n : ℕ) × (checkedContours (a .points .now) (a .lengths .now) (gives (sum (a .lengths .now))) ≡ gives n)
+    (n : ℕ) × (refusedBy (contourRows (a .points .now) (a .lengths .now)) (gives (sum (a .lengths .now))) ≡ gives n)
 unfolding checkedAnswer
 passed c = (_, sym (ap checkedAnswer (sym (c .enum-told .given .1)) ∙ checked-of c .check-contours .ensures))
 
@@ -55,14 +55,14 @@ enum-told : tie.Need-enum-told
 enum-told c = search needs
 
 returns-2 : tie.Need-returns-2
-unfolding checkAnswer refusal
+unfolding checkAnswer numberOf placeOf refusal
 returns-2 c =
     let a = start-of (checked-of (c .before)) .args in
     let n = passed (c .before) in
     (odd-path _ _ _ _ _ _ (n .0) (n .1) (λ e. c .if1 .taken (omega (arith, e))), work-same _ (a .work .now))
 
 returns-3 : tie.Need-returns-3
-unfolding checkAnswer refusal
+unfolding checkAnswer numberOf placeOf refusal
 returns-3 c =
     let a = start-of (checked-of (c .before .before)) .args in
     let n = passed (c .before .before) in
@@ -72,7 +72,7 @@ add-if3 : tie.Need-add-if3
 add-if3 c = search needs
 
 returns-4 : tie.Need-returns-4
-unfolding checkAnswer refusal
+unfolding checkAnswer numberOf placeOf refusal
 returns-4 c =
     let k = c .before in
     let a = start-of (checked-of (sound-of k)) .args in

@@ -1,17 +1,17 @@
 -- `plate::check` meets its contract. Assumes nothing.
 use mathlib.Core.Path.{_≡_, sym, ap, _∙_}
-use mathlib.Core.List.{List}
+use mathlib.Core.List.{List, [], _∷_}
 use Prim.Native.Nat.{ℕ}
 use native.Mathlib.Omega.{arith}
 use lib.Ieee.{Float}
 use lib.ListN.{length}
 use borrow.Author.Tests.{lt-ltb, le-ltb, eq-eqb, ne-eqb}
 use borrow.Author.Needs.{needs}
-use Rattle.rules.specs.Tools.{sum}
-use Rattle.rules.specs.HandedOver.{Answer, gives, refuseIf, refusal, counted, layered, onPlate, checked}
-use Rattle.path.specs.Accepted.{counted-gives}
-use Rattle.plate.specs.Answer.{checkedAnswer}
-use Rattle.plate.specs.Refused.{counted-refuses, counted-passes}
+use Rattle.rules.specs.Tools.{pick, sum}
+use Rattle.rules.specs.HandedOver.{Answer, gives, numberOf, placeOf, refusal, RefusalRow, refusedBy, badLayerCount, badLayer, offThePlate, inputRows}
+use Rattle.path.specs.Rows.{rows-give, rows-pass, refusal-refuses}
+use Rattle.plate.specs.Answer.{checkedAnswer, countRows}
+use Rattle.plate.specs.Counted.{Counted, rows-counted}
 use Rattle.plate.proofs.check.Statement.{statement}
 use Rattle.plate.proofs.check.Tie as tie
 use Rattle.plate.proofs.check.Reads as reads
@@ -33,12 +33,15 @@ lengths c = c .before .before .before .before .before .before .args .lengths .no
 abbrev layers : Told → List ℕ
 layers c = c .before .before .before .before .before .before .args .layers .now
 
-sound : (c : Told) → gives (c .enum-told .given .0 .0) ≡ counted (points c) (lengths c) (gives (sum (lengths c)))
+sound : (c : Told) → gives (c .enum-told .given .0 .0) ≡ refusedBy (countRows (points c) (lengths c)) (gives (sum (lengths c)))
 unfolding checkedAnswer
 sound c = ap checkedAnswer (sym (c .enum-told .given .1)) ∙ c .before .before .check-counts .ensures
 
-passes : {A : Type 0} (c : Told) (later : Answer A) → counted (points c) (lengths c) later ≡ later
-passes c later = counted-passes (points c) (lengths c) _ _ later (sym (sound c))
+passes : {A : Type 0} (c : Told) (later : Answer A) → refusedBy (countRows (points c) (lengths c)) later ≡ later
+passes c later = rows-pass (countRows (points c) (lengths c)) (rows-give _ _ _ (sym (sound c)) .0) later
+
+few : (c : Told) → Counted (points c) (lengths c)
+few c = rows-counted (points c) (lengths c) (rows-give _ _ _ (sym (sound c)) .0)
 
 check-counts-requires : tie.Need-check-counts-requires
 check-counts-requires c κs = search needs
@@ -51,22 +54,23 @@ enum-told-2 c = search needs
 
 -- what refusals 1 to 3 let pass is tested by 13 and 4
 abbrev later : Told → Answer ℕ
-later c = layered (length (lengths c)) (layers c) (onPlate (points c) (gives (sum (lengths c))))
+later c =
+    refusedBy (badLayerCount (length (lengths c)) (layers c) ∷ badLayer (layers c) ∷ offThePlate (points c) ∷ []) (gives (sum (lengths c)))
 
 returns : tie.Need-returns
-unfolding checkedAnswer checked
+unfolding checkedAnswer inputRows countRows refusedBy
 returns c =
     let a = c .before .before .before .before .before .before .args in
     ap checkedAnswer (c .enum-told2 .given .1)
-    ∙ counted-refuses (a .points .now) (a .lengths .now) _ _ _ (ap checkedAnswer (sym (c .enum-told2 .given .1)) ∙ c .before .before .check-counts .ensures)
+    ∙ refusal-refuses (countRows (a .points .now) (a .lengths .now)) _ _ _ (ap checkedAnswer (sym (c .enum-told2 .given .1)) ∙ c .before .before .check-counts .ensures)
 
 cast-t10 : tie.Need-cast-t10
 cast-t10 c =
     let t = c .before in
-    omega (arith, counted-gives (points t) (lengths t) _ _ (sym (sound t)))
+    omega (arith, few t .contours)
 
 returns-2 : tie.Need-returns-2
-unfolding checkedAnswer checked layered refuseIf refusal
+unfolding checkedAnswer inputRows countRows refusedBy badLayerCount badLayer numberOf placeOf refusal pick
 returns-2 c =
     let t = c .before in
     rw (passes t (later t)) (simp (ne-eqb _ _ (c .if1 .taken)))
@@ -77,10 +81,10 @@ first-bad-requires c κs = search needs
 cast-t12 : tie.Need-cast-t12
 cast-t12 c =
     let t = c .before .before .before in
-    omega (arith, c .if2 .taken, c .before .before .if1 .left, counted-gives (points t) (lengths t) _ _ (sym (sound t)))
+    omega (arith, c .if2 .taken, c .before .before .if1 .left, few t .contours)
 
 returns-3 : tie.Need-returns-3
-unfolding checkedAnswer checked layered refuseIf refusal
+unfolding checkedAnswer inputRows countRows refusedBy badLayerCount badLayer numberOf placeOf refusal pick
 returns-3 c =
     let t = c .before .before .before in
     rw (passes t (later t)) (simp (eq-eqb _ _ (c .before .before .if1 .left), ← c .before .first-bad .ensures, lt-ltb _ _ (c .if2 .taken)))
@@ -92,14 +96,14 @@ so-far c = c .before .before .check-counts .ensures ∙ passes c (gives (sum (le
 check-points-requires : tie.Need-check-points-requires
 check-points-requires c κs =
     let t = c .before .before .before in
-    omega (arith, counted-gives (points t) (lengths t) _ _ (sym (sound t)))
+    omega (arith, few t .points, few t .counted)
 
 returns-4 : tie.Need-returns-4
-unfolding checked layered refuseIf
+unfolding inputRows countRows refusedBy badLayerCount badLayer pick
 returns-4 c =
     let t = c .before .before .before .before in
     c .check-points .ensures
-    ∙ ap (onPlate (points t)) (so-far t)
+    ∙ ap (refusedBy (offThePlate (points t) ∷ [])) (so-far t)
     ∙ sym
     (passes t (later t)
     ∙ simp (eq-eqb _ _ (c .before .before .before .if1 .left), ← c .before .before .first-bad .ensures, le-ltb _ _ (c .before .if2 .left)))

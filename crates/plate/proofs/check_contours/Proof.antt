@@ -1,15 +1,15 @@
 -- `plate::check_contours` meets its contract. Assumes nothing.
 use mathlib.Core.Path.{_≡_, sym, ap, _∙_}
-use mathlib.Core.List.{List}
+use mathlib.Core.List.{List, [], _∷_}
 use Prim.Native.Nat.{ℕ}
 use native.Mathlib.Omega.{arith}
 use lib.Ieee.{Float}
 use borrow.Author.Needs.{needs}
 use Rattle.rules.specs.Tools.{sum}
-use Rattle.rules.specs.HandedOver.{Answer, gives, refuseIf, refusal, counted, onPlate, checkedContours}
-use Rattle.path.specs.Accepted.{counted-gives}
-use Rattle.plate.specs.Answer.{checkedAnswer}
-use Rattle.plate.specs.Refused.{counted-refuses, counted-passes}
+use Rattle.rules.specs.HandedOver.{Answer, gives, refusedBy, offThePlate, contourRows}
+use Rattle.path.specs.Rows.{rows-give, rows-pass, refusal-refuses}
+use Rattle.plate.specs.Answer.{checkedAnswer, countRows}
+use Rattle.plate.specs.Counted.{Counted, rows-counted}
 use Rattle.plate.proofs.check_contours.Statement.{statement}
 use Rattle.plate.proofs.check_contours.Tie as tie
 use Rattle.plate.proofs.check_contours.Reads as reads
@@ -27,12 +27,15 @@ points c = c .before .before .before .before .before .args .points .now
 abbrev lengths : Told → List ℕ
 lengths c = c .before .before .before .before .before .args .lengths .now
 
-sound : (c : Told) → gives (c .enum-told .given .0 .0) ≡ counted (points c) (lengths c) (gives (sum (lengths c)))
+sound : (c : Told) → gives (c .enum-told .given .0 .0) ≡ refusedBy (countRows (points c) (lengths c)) (gives (sum (lengths c)))
 unfolding checkedAnswer
 sound c = ap checkedAnswer (sym (c .enum-told .given .1)) ∙ c .before .before .check-counts .ensures
 
-passes : {A : Type 0} (c : Told) (later : Answer A) → counted (points c) (lengths c) later ≡ later
-passes c later = counted-passes (points c) (lengths c) _ _ later (sym (sound c))
+passes : {A : Type 0} (c : Told) (later : Answer A) → refusedBy (countRows (points c) (lengths c)) later ≡ later
+passes c later = rows-pass (countRows (points c) (lengths c)) (rows-give _ _ _ (sym (sound c)) .0) later
+
+few : (c : Told) → Counted (points c) (lengths c)
+few c = rows-counted (points c) (lengths c) (rows-give _ _ _ (sym (sound c)) .0)
 
 check-counts-requires : tie.Need-check-counts-requires
 check-counts-requires c κs = search needs
@@ -44,24 +47,26 @@ enum-told-2 : tie.Need-enum-told-2
 enum-told-2 c = search needs
 
 returns : tie.Need-returns
-unfolding checkedAnswer checkedContours
+unfolding checkedAnswer contourRows countRows refusedBy
 returns c =
     let a = c .before .before .before .before .before .args in
     ap checkedAnswer (c .enum-told2 .given .1)
-    ∙ counted-refuses (a .points .now) (a .lengths .now) _ _ _ (ap checkedAnswer (sym (c .enum-told2 .given .1)) ∙ c .before .before .check-counts .ensures)
+    ∙ refusal-refuses (countRows (a .points .now) (a .lengths .now)) _ _ _ (ap checkedAnswer (sym (c .enum-told2 .given .1)) ∙ c .before .before .check-counts .ensures)
 
 -- what refusals 1 to 3 answered
 so-far : (c : Told) → checkedAnswer (c .before .before .check-counts .result) ≡ gives (sum (lengths c))
 so-far c = c .before .before .check-counts .ensures ∙ passes c (gives (sum (lengths c)))
 
 check-points-requires : tie.Need-check-points-requires
-check-points-requires c κs = omega (arith, counted-gives (points c) (lengths c) _ _ (sym (sound c)))
+check-points-requires c κs = omega (arith, few c .points, few c .counted)
 
 returns-2 : tie.Need-returns-2
-unfolding checkedContours
+unfolding contourRows countRows refusedBy
 returns-2 c =
     let t = c .before in
-    c .check-points .ensures ∙ ap (onPlate (points t)) (so-far t) ∙ sym (passes t (onPlate (points t) (gives (sum (lengths t)))))
+    c .check-points .ensures
+    ∙ ap (refusedBy (offThePlate (points t) ∷ [])) (so-far t)
+    ∙ sym (passes t (refusedBy (offThePlate (points t) ∷ []) (gives (sum (lengths t)))))
 
 pub check-contours-spec : {M : Type 1} → statement M
 check-contours-spec =

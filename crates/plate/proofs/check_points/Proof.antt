@@ -2,7 +2,8 @@
 use native.Mathlib.Omega.{arith}
 use borrow.Author.Tests.{lt-ltb, le-ltb}
 use borrow.Author.Needs.{needs}
-use Rattle.rules.specs.HandedOver.{refuseIf, refusal, onPlate}
+use Rattle.rules.specs.Tools.{pick}
+use Rattle.rules.specs.HandedOver.{numberOf, placeOf, refusal, refusedBy, outOfRange, offThePlate}
 use Rattle.plate.specs.Answer.{checkedAnswer}
 use Rattle.plate.proofs.check_points.Statement.{statement}
 use Rattle.plate.proofs.check_points.Tie as tie
@@ -14,11 +15,11 @@ cast-t6 : tie.Need-cast-t6
 cast-t6 c = omega (arith, c .if1 .taken, c .before .before .before .pre)
 
 returns : tie.Need-returns
-unfolding checkedAnswer onPlate refuseIf refusal
+unfolding checkedAnswer refusedBy outOfRange offThePlate numberOf placeOf refusal pick
 returns c = simp (← c .before .first-off .ensures, lt-ltb _ _ (c .if1 .taken))
 
 returns-2 : tie.Need-returns-2
-unfolding onPlate refuseIf
+unfolding refusedBy outOfRange offThePlate pick
 returns-2 c = simp (← c .before .first-off .ensures, le-ltb _ _ (c .if1 .left))
 
 pub check-points-spec : {M : Type 1} → statement M

@@ -1,6 +1,7 @@
 -- `point::distance_call` meets its contract. Assumes nothing.
 use borrow.Author.Tests.{lt-ltb, le-ltb}
-use Rattle.rules.specs.HandedOver.{distanceAnswer, refusal, refuseIf}
+use Rattle.rules.specs.Tools.{pick}
+use Rattle.rules.specs.HandedOver.{distanceAnswer, numberOf, placeOf, refusal, refusedBy, outOfRange}
 use Rattle.rules.specs.Calls.{distanceCall}
 use borrow.Author.Needs.{needs}
 use Rattle.point.proofs.distance_call.Statement.{statement}
@@ -10,7 +11,7 @@ first-off-requires : tie.Need-first-off-requires
 first-off-requires c κs = search needs
 
 returns : tie.Need-returns
-unfolding distanceAnswer distanceCall refusal refuseIf
+unfolding distanceAnswer distanceCall numberOf placeOf refusal refusedBy outOfRange pick
 returns c = simp (← c .before .first-off .ensures, lt-ltb _ _ (c .if1 .taken))
 
 distance-squared-requires : tie.Need-distance-squared-requires
@@ -20,7 +21,7 @@ distance-requires : tie.Need-distance-requires
 distance-requires c κs = search needs
 
 returns-2 : tie.Need-returns-2
-unfolding distanceAnswer distanceCall refuseIf
+unfolding distanceAnswer distanceCall refusedBy outOfRange pick
 returns-2 c = simp (← c .before .before .before .first-off .ensures, le-ltb _ _ (c .before .before .if1 .left), c .before .distance-squared .ensures, c .distance .ensures)
 
 pub distance-call-spec : {M : Type 1} → statement M

@@ -6,12 +6,12 @@ use native.Mathlib.Omega.{arith}
 use lib.Ieee.{Float}
 use lib.ListN.{length}
 use Rattle.rules.specs.Tools.{sum}
-use Rattle.rules.specs.HandedOver.{Plate, plate, Answer, gives, refusal, checked, retraceAnswer, retraceRoom}
+use Rattle.rules.specs.HandedOver.{Plate, plate, Answer, gives, numberOf, placeOf, refusal, refusedBy, inputRows, retraceWork, retraceAnswer, retraceRoom}
 use Rattle.rules.specs.Box.{box}
 use Rattle.rules.specs.HowNear.{AllF64}
 use Rattle.rules.specs.declared.Counts.{Counts}
 use Rattle.rules.specs.RetraceAndMarks.{retrace}
-use Rattle.path.specs.Accepted.{Accepted, checked-gives}
+use Rattle.path.specs.Accepted.{Accepted, input-gives}
 use Rattle.plate.specs.Answer.{checkedAnswer}
 use Rattle.path_points.specs.Wrote.{Wrote}
 use Rattle.retrace.proofs.Outcome.{Met, Divided, WrittenNear, met-refused, met-short, met-short-distances, met-full, met-whole, counted, divides, near}
@@ -63,19 +63,19 @@ handed s = plate (s .args .points .now) (s .args .lengths .now) (s .args .layers
 -- a plate that did not pass the checks
 unsound : (c : tie.After-known-told) →
     let a = start-of (refused-of c) .args in
-    refusal (c .before .checked .given .0 .0) ≡ checked (a .points .now) (a .lengths .now) (a .layers .now) (gives (sum (a .lengths .now)))
+    refusal (c .before .checked .given .0 .0) ≡ refusedBy (inputRows (a .points .now) (a .lengths .now) (a .layers .now)) (gives (sum (a .lengths .now)))
 unfolding checkedAnswer
 unsound c = ap checkedAnswer (sym (c .before .checked .given .1)) ∙ refused-of c .check .ensures
 
 -- a plate that passed them
 sound : (c : tie.After-enum-told) →
     let a = start-of (check-of c) .args in
-    checked (a .points .now) (a .lengths .now) (a .layers .now) (gives (sum (a .lengths .now))) ≡ gives (c .enum-told .given .0 .0)
+    refusedBy (inputRows (a .points .now) (a .lengths .now) (a .layers .now)) (gives (sum (a .lengths .now))) ≡ gives (c .enum-told .given .0 .0)
 unfolding checkedAnswer
 sound c = sym (ap checkedAnswer (sym (c .enum-told .given .1)) ∙ check-of c .check .ensures)
 
 accepted : (c : tie.After-enum-told) → let a = start-of (check-of c) .args in Accepted (a .points .now) (a .lengths .now)
-accepted c = checked-gives _ _ _ _ _ (sound c) .0
+accepted c = input-gives _ _ _ _ _ (sound c) .0
 
 -- the room that was worked out is C
 room-is : (c : tie.After-least2) → let a = origin-of c .args in c .least2 .result ≡ retraceRoom (length (a .path .now)) (length (a .marks .now))
@@ -164,7 +164,7 @@ add-if1-3 : tie.Need-add-if1-3
 add-if1-3 c = let a = accepted (told-of c) in omega (arith, c .least2 .ensures, a .contours, a .points, a .counted)
 
 returns-2 : tie.Need-returns-2
-unfolding retraceAnswer refusal plate
+unfolding retraceAnswer retraceWork numberOf placeOf refusal plate
 returns-2 c =
     let room = c .before in
     let told = told-of room in
@@ -174,7 +174,7 @@ returns-2 c =
     (omega (arith, c .if1 .taken, room-is room, accepted told .counted)))
 
 returns-3 : tie.Need-returns-3
-unfolding retraceAnswer refusal plate
+unfolding retraceAnswer retraceWork numberOf placeOf refusal plate
 returns-3 c =
     let room = room-of (c .before) in
     let s = origin-of room in
@@ -200,7 +200,7 @@ join-retrace-requires c κs =
         work-room = omega (arith, test .before .if1 .left, a .counted);
         distances-room = omega (arith, test .if2 .left);
       },
-      checked-gives _ _ _ _ _ (sound told) .1 .counted,
+      input-gives _ _ _ _ _ (sound told) .1 .counted,
     )
 
 same-length : tie.Need-same-length
@@ -216,7 +216,7 @@ same-length-4 : tie.Need-same-length-4
 same-length-4 c = search needs
 
 returns-4 : tie.Need-returns-4
-unfolding retraceAnswer refusal plate
+unfolding retraceAnswer retraceWork numberOf placeOf refusal plate
 returns-4 c =
     let joined = join-of (c .before) in
     let test = test-of (joined .before) in
@@ -247,7 +247,7 @@ same-length-8 : tie.Need-same-length-8
 same-length-8 c = search needs
 
 returns-5 : tie.Need-returns-5
-unfolding retraceAnswer plate
+unfolding retraceAnswer retraceWork plate
 returns-5 c =
     let fits = c .before .before in
     let joined = join-of (fits .before) in

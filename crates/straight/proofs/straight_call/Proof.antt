@@ -4,11 +4,11 @@ use Prim.Native.Nat.{_/_, _≤_}
 use native.Mathlib.Omega.{arith}
 use lib.ListN.{length}
 use Rattle.rules.specs.Tools.{sum}
-use Rattle.rules.specs.HandedOver.{Plate, plate, gives, refusal, checked, straightAnswer, straightRoom}
+use Rattle.rules.specs.HandedOver.{Plate, plate, gives, numberOf, placeOf, refusal, refusedBy, inputRows, straightAnswer, straightRoom}
 use Rattle.rules.specs.RetraceAndMarks.{coordinates}
 use Rattle.rules.specs.OrderAndStraight.{order, straight}
 use Rattle.rules.specs.Calls.{straightCall}
-use Rattle.path.specs.Accepted.{Accepted, Layered, checked-gives}
+use Rattle.path.specs.Accepted.{Accepted, Layered, input-gives}
 use Rattle.path.specs.Start.{layered-part}
 use Rattle.path.specs.Ordering.{straight-length}
 use Rattle.path.specs.Slices.{coordinates-length}
@@ -25,14 +25,14 @@ handed s = plate (s .args .points .now) (s .args .lengths .now) (s .args .layers
 -- a plate that passed the checks
 sound : (c : tie.After-enum-told) →
     let a = c .before .before .before .before .before .before .before .before .args in
-    checked (a .points .now) (a .lengths .now) (a .layers .now) (gives (sum (a .lengths .now))) ≡ gives (c .enum-told .given .0 .0)
+    refusedBy (inputRows (a .points .now) (a .lengths .now) (a .layers .now)) (gives (sum (a .lengths .now))) ≡ gives (c .enum-told .given .0 .0)
 unfolding checkedAnswer
 sound c = sym (ap checkedAnswer (sym (c .enum-told .given .1)) ∙ c .before .before .check .ensures)
 
 accepted : (c : tie.After-enum-told) →
     let a = c .before .before .before .before .before .before .before .before .args in
     Accepted (a .points .now) (a .lengths .now) × Layered (length (a .lengths .now)) (a .layers .now)
-accepted c = let g = checked-gives _ _ _ _ _ (sound c) in (g .0, g .1)
+accepted c = let g = input-gives _ _ _ _ _ (sound c) in (g .0, g .1)
 
 -- the path has as many points as the plate
 points-are : (c : tie.After-enum-told) →
@@ -61,7 +61,7 @@ enum-told : tie.Need-enum-told
 enum-told c = search needs
 
 returns-2 : tie.Need-returns-2
-unfolding straightAnswer straightCall plate refusal
+unfolding straightAnswer straightCall plate numberOf placeOf refusal
 returns-2 c =
     let s = c .before .before .before .before .before .before .before .before .before in
     met-short (handed s) (length (s .args .work .now)) _ _ _ (s .args .path .now) (s .args .work .now) _ _ (sound (c .before)) (omega (arith, c .if1 .taken))
@@ -84,7 +84,7 @@ same-length-2 : tie.Need-same-length-2
 same-length-2 c = search needs
 
 returns-3 : tie.Need-returns-3
-unfolding straightAnswer straightCall straightRoom plate refusal
+unfolding straightAnswer straightCall straightRoom plate numberOf placeOf refusal
 returns-3 c =
     let d = c .before .before .before .before .before in
     let t = d .before .before .before .before .before in

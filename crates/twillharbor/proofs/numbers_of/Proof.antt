@@ -1,5 +1,5 @@
 -- `twillharbor::numbers_of` meets its contract. Assumes nothing.
-use Rattle.rules.specs.HandedOver.{refusal}
+use Rattle.rules.specs.HandedOver.{numberOf, placeOf, refusal}
 use borrow.Author.Needs.{needs}
 use Rattle.twillharbor.proofs.numbers_of.Statement.{statement}
 use Rattle.twillharbor.proofs.numbers_of.Tie as tie
@@ -32,38 +32,38 @@ enum-known-r-4 : tie.Need-enum-known-r-4
 enum-known-r-4 c = search needs
 
 returns : tie.Need-returns
-unfolding refusal
+unfolding numberOf placeOf refusal
 returns c = rw (c .enum-told .given .1)
 
 returns-2 : tie.Need-returns-2
-unfolding refusal
+unfolding numberOf placeOf refusal
 returns-2 c = rw (c .enum-told2 .given .1)
 
 returns-3 : tie.Need-returns-3
-unfolding refusal
+unfolding numberOf placeOf refusal
 returns-3 c = rw (c .enum-told3 .given .1)
 
 returns-4 : tie.Need-returns-4
-unfolding refusal
+unfolding numberOf placeOf refusal
 returns-4 c = rw (c .before .r .given .1)
 
 returns-5 : tie.Need-returns-5
-unfolding refusal
+unfolding numberOf placeOf refusal
 returns-5 c = rw (c .before .r2 .given .1)
 
 returns-6 : tie.Need-returns-6
-unfolding refusal
+unfolding numberOf placeOf refusal
 returns-6 c = rw (c .before .r3 .given .1)
 
 returns-7 : tie.Need-returns-7
-unfolding refusal
+unfolding numberOf placeOf refusal
 returns-7 c = rw (c .enum-told4 .given .1)
 
 returns-8 : tie.Need-returns-8
 returns-8 c = absurd (c .before .before .pre _ (c .enum-told5 .given .1))
 
 returns-9 : tie.Need-returns-9
-unfolding refusal
+unfolding numberOf placeOf refusal
 returns-9 c = rw (c .before .r4 .given .1)
 
 pub numbers-of-spec : {M : Type 1} → statement M

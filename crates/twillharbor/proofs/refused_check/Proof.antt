@@ -1,11 +1,11 @@
 -- `twillharbor::refused_check` meets its contract. Assumes nothing.
-use mathlib.Core.Path.{_≡_, sym, ap, _∙_}
+use mathlib.Core.Path.{_≡_, sym, ap}
 use mathlib.Core.List.{[], _∷_}
 use mathlib.Core.Logic.{inl, inr}
 use native.Mathlib.Omega.{arith}
 use types.Run.{OneOf}
-use Rattle.rules.specs.HandedOver.{refusal}
-use Rattle.plate.specs.Refused.{refused}
+use Rattle.rules.specs.HandedOver.{numberOf, placeOf, refusal}
+use Rattle.path.specs.Rows.{refused}
 use Rattle.twillharbor.specs.Results.{checkResult}
 use borrow.Author.Needs.{needs}
 use Rattle.twillharbor.proofs.refused_check.Statement.{statement}
@@ -26,7 +26,7 @@ enum-known-r : tie.Need-enum-known-r
 enum-known-r c = search needs
 
 returns : tie.Need-returns
-unfolding checkResult refusal
+unfolding checkResult numberOf placeOf refusal
 returns c = rw (c .before .r .given .1)
 
 numbers-of-requires : tie.Need-numbers-of-requires

@@ -6,7 +6,7 @@ use native.Mathlib.Omega.{arith}
 use Rattle.rules.specs.HandedOver.{Answer, gives, refuses, refusal, checkAnswer}
 use Rattle.rules.specs.PathCheck.{CheckDecides, CheckPlaces}
 use Rattle.rules.specs.declared.Refusal.{Refusal}
-use Rattle.plate.specs.Refused.{not-given}
+use Rattle.path.specs.Rows.{not-given}
 use Rattle.division.specs.Theorem.{check-decides, check-places}
 use Rattle.twillharbor.specs.Results.{checkResult}
 use Rattle.twillharbor.specs.Refusals.{not-zero}

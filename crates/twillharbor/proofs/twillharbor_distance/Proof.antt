@@ -4,7 +4,7 @@ use lib.Ieee.{ofBits}
 use Rattle.rules.specs.HandedOver.{distanceAnswer}
 use Rattle.twillharbor.specs.Results.{distanceResult, pointOf}
 use Rattle.twillharbor.specs.Refusals.{of-other, distance-other}
-use Rattle.plate.specs.Refused.{refused}
+use Rattle.path.specs.Rows.{refused}
 use borrow.Author.Needs.{needs}
 use Rattle.twillharbor.proofs.twillharbor_distance.Statement.{statement}
 use Rattle.twillharbor.proofs.twillharbor_distance.Tie as tie

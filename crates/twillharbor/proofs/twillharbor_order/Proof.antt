@@ -1,7 +1,7 @@
 -- `twillharbor::twillharbor_order` meets its contract. Assumes nothing.
 use mathlib.Core.Path.{_≡_, sym, ap, _∙_}
 use Rattle.rules.specs.HandedOver.{orderAnswer}
-use Rattle.plate.specs.Refused.{refused}
+use Rattle.path.specs.Rows.{refused}
 use Rattle.twillharbor.specs.Results.{orderResult}
 use Rattle.twillharbor.specs.Refusals.{of-other, order-other}
 use borrow.Author.Needs.{needs}

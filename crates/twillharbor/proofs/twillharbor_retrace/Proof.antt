@@ -3,7 +3,7 @@ use mathlib.Core.Path.{_≡_, sym, ap, _∙_}
 use Rattle.rules.specs.HandedOver.{retraceAnswer}
 use Rattle.rules.specs.Tools.{pick}
 use Rattle.rules.specs.HowNear.{writtenPoints}
-use Rattle.plate.specs.Refused.{refused}
+use Rattle.path.specs.Rows.{refused}
 use Rattle.twillharbor.specs.Results.{retraceResult, countsOf, writtenOf}
 use Rattle.twillharbor.specs.Refusals.{not-zero, of-other, retrace-other}
 use borrow.Author.Needs.{needs}

@@ -4,7 +4,7 @@ use Prim.Native.Nat.{ℕ}
 use mir.Val.{boolByte}
 use Rattle.rules.specs.Tools.{pick}
 use Rattle.rules.specs.HandedOver.{startAnswer}
-use Rattle.plate.specs.Refused.{refused}
+use Rattle.path.specs.Rows.{refused}
 use Rattle.twillharbor.specs.Results.{startResult}
 use Rattle.twillharbor.specs.Refusals.{of-other, start-other}
 use Rattle.twillharbor.specs.declared.StartResult.{StartResult}

@@ -1,7 +1,7 @@
 -- `twillharbor::twillharbor_straight` meets its contract. Assumes nothing.
 use mathlib.Core.Path.{_≡_, sym, ap, _∙_}
 use Rattle.rules.specs.HandedOver.{straightAnswer}
-use Rattle.plate.specs.Refused.{refused}
+use Rattle.path.specs.Rows.{refused}
 use Rattle.twillharbor.specs.Results.{straightResult}
 use Rattle.twillharbor.specs.Refusals.{of-other, straight-other}
 use borrow.Author.Needs.{needs}

@@ -23,8 +23,8 @@
  *   3   miscounted          point slice length is not twice that sum; the check call: path
  *                           slice length is odd, or marks slice is not as long
  *   13  bad layer           layer slice length is not M, or a layer is above 15
- *   4   off the plate       a coordinate is NaN, infinite or of magnitude above
- *                           1,000,000 (the distance call: 2,147,483,648)
+ *   4   off the plate       a coordinate, the parked point's first, is NaN, infinite or of
+ *                           magnitude above 1,000,000 (the distance call: 2,147,483,648)
  *   5   work short          u32 work below C + 4P + 8M + 16,384 or f64 work below M
  *                           (retrace); u32 work below M (order, straight), below P + M
  *                           (check)
@@ -36,9 +36,10 @@
  * They are tested from the top of this table to its end, 13 between 3 and 4, and the check
  * call's 3 of path and marks after 4; the first that holds wins. The place is, for 13, M where
  * the slice's length is wrong, else the number of the first contour whose layer is above 15;
- * for 4 the first such coordinate's place in the slice; for 5 zero (u32) or one (f64, u32 being
- * enough); for 6 C; for 12 the first path point that breaks a rule, or else the number of path
- * points; otherwise 0. A call says which of these it can give.
+ * for 4 zero (home_x) or one (home_y) where the parked point is off the plate, else the first
+ * such coordinate's place in the slice; for 5 zero (u32) or one (f64, u32 being enough); for 6
+ * C; for 12 the first path point that breaks a rule, or else the number of path points;
+ * otherwise 0. A call says which of these it can give.
  *
  * Slices. A slice is two arguments: the pointer to its first element, then the number
  * of its elements, a size_t. The pointer is aligned for its elements and not NULL, also
@@ -97,6 +98,14 @@ struct twillharbor_distance_result twillharbor_distance(double ax, double ay, do
  * width, height   twice the centre
  * inside    the start strategy: Inside where true, Outside where false
  *
+ * The start, order, straight and retrace calls have a form whose name ends in _home. It takes,
+ * in place of width, height and inside:
+ *
+ * home_x, home_y   the parked point; the start strategy is Home
+ *
+ * All that is said of a call holds of its _home form. The parked point counts as it is, -0 and
+ * subnormal numbers too, and may be far from every contour.
+ *
  * Each call chooses one contour after the other, and chooses a contour only if none that
  * waits has a lower layer. A contour waits that holds a point and was not chosen before: a
  * skipped one never waits, whatever its layer. So a layer is drawn whole before the next, and
@@ -105,7 +114,9 @@ struct twillharbor_distance_result twillharbor_distance(double ax, double ay, do
  *
  * They only read points, lengths and layers. Squared distances are those of the distance
  * call. Refusals 1 to 3, 13 and 4, in this order, test points, lengths and layers, before all
- * else. Refusals 1 to 5, 7 and 13 alter no slice.
+ * else. In the _home forms 4 tests the parked point first, home_x before home_y, then the
+ * points. Place 0 or 1 may be either's: it is the parked point's exactly if that is off the
+ * plate. Refusals 1 to 5, 7 and 13 alter no slice.
  */
 
 struct twillharbor_start_result {
@@ -117,8 +128,8 @@ struct twillharbor_start_result {
  * reversed, else 0.
  *
  * Of the contours of the lowest layer that waits, in order, first point before last: Outside
- * takes a strictly larger squared distance to the centre, Inside a strictly smaller one. A
- * winning last point reverses the contour.
+ * takes a strictly larger squared distance to the centre, Inside a strictly smaller one, Home a
+ * strictly smaller one to the parked point. A winning last point reverses the contour.
  *
  * Refusals 1 to 3, 13 and 4, then 7 where no contour holds a point.
  */
@@ -127,6 +138,13 @@ struct twillharbor_start_result twillharbor_start(
     const uint32_t *lengths, size_t lengths_length,
     const uint32_t *layers, size_t layers_length,
     uint32_t width, uint32_t height, bool inside);
+
+/* The start call with the strategy Home. */
+struct twillharbor_start_result twillharbor_start_home(
+    const double *points, size_t points_length,
+    const uint32_t *lengths, size_t lengths_length,
+    const uint32_t *layers, size_t layers_length,
+    double home_x, double home_y);
 
 struct twillharbor_order_result {
     uint32_t number, place, entries;
@@ -154,6 +172,15 @@ struct twillharbor_order_result twillharbor_order(
     uint32_t *order, size_t order_length,
     uint32_t *work, size_t work_length);
 
+/* The order call with the strategy Home. */
+struct twillharbor_order_result twillharbor_order_home(
+    const double *points, size_t points_length,
+    const uint32_t *lengths, size_t lengths_length,
+    const uint32_t *layers, size_t layers_length,
+    double home_x, double home_y,
+    uint32_t *order, size_t order_length,
+    uint32_t *work, size_t work_length);
+
 struct twillharbor_straight_result {
     uint32_t number, place, points;
 };
@@ -176,6 +203,15 @@ struct twillharbor_straight_result twillharbor_straight(
     const uint32_t *lengths, size_t lengths_length,
     const uint32_t *layers, size_t layers_length,
     uint32_t width, uint32_t height, bool inside,
+    double *path, size_t path_length,
+    uint32_t *work, size_t work_length);
+
+/* The straight call with the strategy Home. */
+struct twillharbor_straight_result twillharbor_straight_home(
+    const double *points, size_t points_length,
+    const uint32_t *lengths, size_t lengths_length,
+    const uint32_t *layers, size_t layers_length,
+    double home_x, double home_y,
     double *path, size_t path_length,
     uint32_t *work, size_t work_length);
 
@@ -245,6 +281,17 @@ struct twillharbor_retrace_result twillharbor_retrace(
     const uint32_t *lengths, size_t lengths_length,
     const uint32_t *layers, size_t layers_length,
     uint32_t width, uint32_t height, bool inside,
+    double *path, size_t path_length,
+    uint32_t *marks, size_t marks_length,
+    uint32_t *work, size_t work_length,
+    double *distances, size_t distances_length);
+
+/* The retrace call with the strategy Home. */
+struct twillharbor_retrace_result twillharbor_retrace_home(
+    const double *points, size_t points_length,
+    const uint32_t *lengths, size_t lengths_length,
+    const uint32_t *layers, size_t layers_length,
+    double home_x, double home_y,
     double *path, size_t path_length,
     uint32_t *marks, size_t marks_length,
     uint32_t *work, size_t work_length,

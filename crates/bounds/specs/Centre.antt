@@ -1,4 +1,4 @@
--- The squared distance from the image's centre to an accepted point is finite, and its sign is plus. Assumes nothing.
+-- The squared distance to an accepted point, from where a strategy takes it, is finite, and its sign is plus. Assumes nothing.
 use mathlib.Core.Path.{_≡_, refl, ap}
 use mathlib.Core.Bool.{Bool, true, false, true≢false}
 use Prim.Native.Nat.{ℕ, suc, _*_, _^_, _≤_, _<_}
@@ -12,14 +12,17 @@ use lib.Ieee.Back.{round-whole}
 use lib.Ieee.Exact.{HasValue, round-exact}
 use lib.Ieee.Fits.{down-pos}
 use mir.Facts.{and-yes}
-use Rattle.rules.specs.HandedOver.{inRange, plateLimit}
+use Rattle.rules.specs.HandedOver.{inRange, plateLimit, parkedCoordinates}
 use Rattle.rules.specs.Distances.{mulAdd, distanceSquared}
-use Rattle.rules.specs.Start.{half, centre}
+use Rattle.rules.specs.Start.{half, centre, measuredFrom}
 use Rattle.rules.specs.declared.Point.{Point}
+use Rattle.rules.specs.declared.StartPointStrategy.{StartPointStrategy}
+use Rattle.rules.specs.declared.StartPointStrategy.the-variants.{Outside, Inside, Home}
 use Rattle.rounding.specs.Magnitude.{nonNegative}
 use Rattle.rounding.specs.Range.{Upto, between, sub-upto, square-upto, square-plus-upto}
 use Rattle.path.specs.FloatOrder.{Plus}
-use Rattle.path.specs.FiniteDistances.{OnPlate}
+use Rattle.path.specs.FiniteDistances.{OnPlate, distance-plus}
+use Rattle.path.specs.Accepted.{ParkedOnPlate}
 
 -- ---- half of a u32
 
@@ -67,7 +70,7 @@ plus-of (inf s) h = h
 plus-of (fin true m e) h = h
 plus-of (fin false m e) h = tt
 
-pub centre-plus : (width height : ℕ) → width < 2 ^ 32 → height < 2 ^ 32 → (p : Point) → OnPlate (p .x) → OnPlate (p .y) →
+centre-plus : (width height : ℕ) → width < 2 ^ 32 → height < 2 ^ 32 → (p : Point) → OnPlate (p .x) → OnPlate (p .y) →
     Plus (distanceSquared (centre width height) p)
 unfolding distanceSquared centre
 centre-plus width height w h p px py =
@@ -76,3 +79,10 @@ centre-plus width height w h p px py =
     let x = sub-upto 31 (half width) (p .x) (lit< tt) (half-upto width w) (on-plate-upto (p .x) px) in
     let y = square-upto 33 dy (lit< tt) (sub-upto 31 (half height) (p .y) (lit< tt) (half-upto height h) (on-plate-upto (p .y) py)) in
     plus-of (mulAdd binary64 dx dx (mul binary64 dy dy)) (square-plus-upto 33 dx (mul binary64 dy dy) (lit< tt) x (y .0) (y .1) .1)
+
+pub measured-plus : (s : StartPointStrategy) (width height : ℕ) → width < 2 ^ 32 → height < 2 ^ 32 → ParkedOnPlate s →
+    (p : Point) → OnPlate (p .x) → OnPlate (p .y) → Plus (distanceSquared (measuredFrom s width height) p)
+unfolding measuredFrom ParkedOnPlate parkedCoordinates
+measured-plus Outside width height w h k p px py = centre-plus width height w h p px py
+measured-plus Inside width height w h k p px py = centre-plus width height w h p px py
+measured-plus (Home parked) width height w h k p px py = distance-plus parked p (k .0) (k .1 .0) px py

@@ -134,7 +134,7 @@ entering kind r = enters kind
 abbrev ofKind : ℕ → ℕ → ℕ → Bool
 ofKind a kind r = eqb kind a
 
--- cuts segment r, and cuts a segment of c
+-- cuts segment v, and cuts a segment of c
 abbrev cutting : ℕ → ℕ → ℕ → Bool
 cutting v kind r = eqb kind cutKind && eqb r v
 

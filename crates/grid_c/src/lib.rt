@@ -103,7 +103,7 @@ pub struct CenterResult {
     pub y: f64,
 }
 
-// The centre that the start is chosen by.
+// The centre, from which Outside and Inside take distances.
 #[no_mangle]
 pub extern "C" fn twillharbor_grid_center(width: u32, height: u32) -> CenterResult
     ensures { λ r. ⌜ r ≡ centerResult (centre width height) ⌝ }

@@ -1,12 +1,16 @@
-// Boundary runs of the table of refusals (document 01, with document 02's bad layer): for each case one line with its name, its number and
+// Boundary runs of the table of refusals (document 01, with document 02's bad layer and parked point): for each case one line with its name, its number and
 // its place, and the entries or points where the call counts them. A line of the retrace call has the lengths of the path, marks, u32 work
 // and f64 work slices, and number, place, points, cuts, back-steps, jumps and touches.
 ghost use Prim.Native.Nat.{_≤_};
 use twillharbor::RetraceResult;
 use twillharbor::twillharbor_order;
+use twillharbor::twillharbor_order_home;
 use twillharbor::twillharbor_retrace;
+use twillharbor::twillharbor_retrace_home;
 use twillharbor::twillharbor_start;
+use twillharbor::twillharbor_start_home;
 use twillharbor::twillharbor_straight;
+use twillharbor::twillharbor_straight_home;
 
 fn show(number: u32, place: u32) {
     io::write_all(1, b": ");
@@ -452,6 +456,104 @@ fn layers_after_counts() {
     four_calls(b"65537 points of layer 16", &points, &lengths, &one);
 }
 
+fn show_name(call: &[u8], name: &[u8]) {
+    io::write_all(1, call);
+    io::write_all(1, b" home, ");
+    io::write_all(1, name);
+}
+
+fn retrace_home(name: &[u8], points: &[f64], lengths: &[u32], layers: &[u32], x: f64, y: f64) {
+    let mut path = [0.0f64; 2];
+    let mut marks = [0u32; 2];
+    let mut work = [0u32; 16397];
+    let mut distances = [0.0f64; 1];
+    let r = twillharbor_retrace_home(
+        points,
+        lengths,
+        layers,
+        x,
+        y,
+        &mut path,
+        &mut marks,
+        &mut work,
+        &mut distances,
+    );
+    show_name(b"retrace", name);
+    show_retrace(r);
+}
+
+// The four calls from a parked point, on a contour of one point, with slices that are enough for it: C = 1, with u32 work of 1 + 4 + 8 + 16,384.
+fn four_home_calls(name: &[u8], points: &[f64], layers: &[u32], x: f64, y: f64) {
+    let lengths = [1u32; 1];
+    let mut entries = [0u32; 2];
+    let mut path = [0.0f64; 2];
+    let mut work = [0u32; 1];
+    let a = twillharbor_start_home(points, &lengths, layers, x, y);
+    show_name(b"start", name);
+    show(a.number, a.place);
+    let b = twillharbor_order_home(points, &lengths, layers, x, y, &mut entries, &mut work);
+    show_name(b"order", name);
+    show_count(b.number, b.place, b.entries);
+    let c = twillharbor_straight_home(points, &lengths, layers, x, y, &mut path, &mut work);
+    show_name(b"straight", name);
+    show_count(c.number, c.place, c.points);
+    retrace_home(name, points, &lengths, layers, x, y);
+}
+
+fn parked() {
+    let above = next_above();
+    let below = next_below();
+    let points = [0.0f64; 2];
+    let layers = [0u32; 1];
+    four_home_calls(
+        b"1000000, -1000000",
+        &points,
+        &layers,
+        1000000.0,
+        -1000000.0,
+    );
+    four_home_calls(
+        b"-1000000, 1000000",
+        &points,
+        &layers,
+        -1000000.0,
+        1000000.0,
+    );
+    four_home_calls(b"next above 1000000 as x", &points, &layers, above, 0.0);
+    four_home_calls(b"next below -1000000 as x", &points, &layers, below, 0.0);
+    four_home_calls(b"next above 1000000 as y", &points, &layers, 0.0, above);
+    four_home_calls(b"next below -1000000 as y", &points, &layers, 0.0, below);
+}
+
+// The parked point is tested after the layers and before the coordinates: in the second case the place tells which was refused.
+fn parked_between() {
+    let above = next_above();
+    let points = [above, 0.0];
+    let high = [16u32; 1];
+    four_home_calls(
+        b"layer 16, all next above 1000000",
+        &points,
+        &high,
+        above,
+        above,
+    );
+    let layers = [0u32; 1];
+    four_home_calls(
+        b"coordinate 0 and y next above 1000000",
+        &points,
+        &layers,
+        0.0,
+        above,
+    );
+    four_home_calls(
+        b"coordinate 0 next above 1000000",
+        &points,
+        &layers,
+        0.0,
+        1000000.0,
+    );
+}
+
 fn main() {
     coordinates();
     most_contours_start();
@@ -476,4 +578,6 @@ fn main() {
     last_layers();
     miscounted_layers();
     layers_after_counts();
+    parked();
+    parked_between();
 }

@@ -89,7 +89,7 @@ module _ (p : Plate) (f64 : AllF64 (p .points)) (own : p .box ≡ box (p .points
 pub how-near-by-rules : HowNearByRules
 unfolding HowNearByRules IsAccepted
 how-near-by-rules p f64 own accepted =
-    let (sound, layered, same) = input-gives (p .points) (p .lengths) (p .layers) _ tt accepted in
+    let (sound, layered, parked, same) = input-gives (p .points) (p .lengths) (p .layers) (p .strategy) _ tt accepted in
     landings-near p f64 own sound (layered-part p layered)
 
 -- ---- what a call has written

@@ -44,7 +44,7 @@ pub fn order_call(
         (let o = orderCall (plate (now (points .entry)) (now (lengths .entry)) (now (layers .entry)) width height strategy) (now (order .entry)) (length (now (work .entry))) in
         (orderAnswer r ≡ o .answer) × (now (order .exit) ≡ o .order) × WorkKept (o .answer) (now (work .entry)) (now (work .exit))) ⌝ }
 {
-    let checked = check(points, lengths, layers);
+    let checked = check(points, lengths, layers, strategy);
     if let Checked::Unsound(r) = checked {
         return OrderAnswer::NoOrder(r);
     }

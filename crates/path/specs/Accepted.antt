@@ -11,8 +11,9 @@ use lib.ListN.{length}
 use borrow.Author.Tests.{ltb-false, le-ltb, leb-true, eqb-true, eq-eqb, not-false}
 use Rattle.rules.specs.Tools.{pick, sum, every, highestLayer}
 use Rattle.rules.specs.HandedOver.{Plate, at, Answer, gives, inRange, plateLimit, firstOff, firstBad, refusedBy}
-use Rattle.rules.specs.HandedOver.{tooManyContours, tooManyPoints, miscounted, badLayerCount, badLayer, outOfRange, offThePlate, contourRows, inputRows}
+use Rattle.rules.specs.HandedOver.{tooManyContours, tooManyPoints, miscounted, badLayerCount, badLayer, outOfRange, offThePlate, contourRows, parkedCoordinates, inputRows}
 use Rattle.rules.specs.Distances.{distanceSquared}
+use Rattle.rules.specs.declared.StartPointStrategy.{StartPointStrategy}
 use Rattle.path.specs.Lists.{All, all-at}
 use Rattle.path.specs.Rows.{Passed, OtherThan, Lacks, rows-other, given-other, rows-give}
 use Rattle.path.specs.FloatOrder.{Plus}
@@ -52,6 +53,10 @@ pub record Layered (m : ℕ) (ls : List ℕ) : Type 0 where
   pub counted : length ls ≡ m
   pub shallow : All (λ l. l ≤ highestLayer) ls
 
+-- a parked point that refusal 4 lets pass
+unfoldable pub ParkedOnPlate : StartPointStrategy → Type 0
+ParkedOnPlate s = All OnPlate (parkedCoordinates s)
+
 on-plate : (xs : List Float) → offThePlate xs .test ≡ false → All OnPlate xs
 unfolding offThePlate outOfRange
 on-plate xs e = first-off plateLimit 0 xs (omega (arith, ltb-false (firstOff plateLimit 0 xs) (length xs) e))
@@ -75,21 +80,21 @@ layered-by m ls (c, (b, t)) =
     }
 
 -- what an answer has passed that is a result, or another refusal
-pub input-other : {A : Type 0} (xs : List Float) (ns ls : List ℕ) (later b : Answer A) → OtherThan (inputRows xs ns ls) b →
-    refusedBy (inputRows xs ns ls) later ≡ b → Accepted xs ns × Layered (length ns) ls × (later ≡ b)
-unfolding inputRows
-input-other xs ns ls later b o e =
-    let ((m, (p, (c, (n, (l, (o, t)))))), same) = rows-other (inputRows xs ns ls) later b o e in
-    (accepted-by xs ns (m, (p, (c, (o, tt)))), layered-by (length ns) ls (n, (l, tt)), same)
+pub input-other : {A : Type 0} (xs : List Float) (ns ls : List ℕ) (s : StartPointStrategy) (later b : Answer A) → OtherThan (inputRows xs ns ls s) b →
+    refusedBy (inputRows xs ns ls s) later ≡ b → Accepted xs ns × Layered (length ns) ls × ParkedOnPlate s × (later ≡ b)
+unfolding inputRows ParkedOnPlate
+input-other xs ns ls s later b o e =
+    let ((m, (p, (c, (n, (l, (k, (o, t))))))), same) = rows-other (inputRows xs ns ls s) later b o e in
+    (accepted-by xs ns (m, (p, (c, (o, tt)))), layered-by (length ns) ls (n, (l, tt)), on-plate (parkedCoordinates s) k, same)
 
-pub input-gives : {A : Type 0} (xs : List Float) (ns ls : List ℕ) (later : Answer A) (c : A) → refusedBy (inputRows xs ns ls) later ≡ gives c →
-    Accepted xs ns × Layered (length ns) ls × (later ≡ gives c)
-input-gives xs ns ls later c e = input-other xs ns ls later (gives c) (given-other (inputRows xs ns ls) c) e
+pub input-gives : {A : Type 0} (xs : List Float) (ns ls : List ℕ) (s : StartPointStrategy) (later : Answer A) (c : A) →
+    refusedBy (inputRows xs ns ls s) later ≡ gives c → Accepted xs ns × Layered (length ns) ls × ParkedOnPlate s × (later ≡ gives c)
+input-gives xs ns ls s later c e = input-other xs ns ls s later (gives c) (given-other (inputRows xs ns ls s) c) e
 
 -- refusal 6 is none of these, and neither is 12
-pub input-lacks : (xs : List Float) (ns ls : List ℕ) → Lacks 6 (inputRows xs ns ls) × Lacks 12 (inputRows xs ns ls)
+pub input-lacks : (xs : List Float) (ns ls : List ℕ) (s : StartPointStrategy) → Lacks 6 (inputRows xs ns ls s) × Lacks 12 (inputRows xs ns ls s)
 unfolding inputRows every tooManyContours tooManyPoints miscounted badLayerCount badLayer outOfRange offThePlate
-input-lacks xs ns ls = (tt, tt)
+input-lacks xs ns ls s = (tt, tt)
 
 -- of contours without layers
 pub contours-accepted : (xs : List Float) (ns : List ℕ) → Passed (contourRows xs ns) → Accepted xs ns

@@ -1,18 +1,18 @@
 -- With one layer for all contours the calls answer, and leave in their slices, what they do without layers. The definitions without layers are those of
 -- crates/rules/specs with `winner` where those have `foremost`, and without refusal 13. Assumes nothing.
-use mathlib.Core.Path.{_≡_, refl, sym, ap, _∙_}
+use mathlib.Core.Path.{_≡_, refl, ap, _∙_}
 use mathlib.Core.List.{List, [], _∷_, _++_, map}
 use mathlib.Core.Option.{Option, none, some}
-use Prim.Native.Nat.{ℕ, zero, suc, _+_, _*_, _≤_, _<_}
+use Prim.Native.Nat.{ℕ, zero, suc, _+_, _≤_, _<_}
 use native.Mathlib.Omega.{arith}
 use mathlib.Core.Bool.{Bool, not}
 use lib.Ieee.{Float}
-use lib.ListN.{length, getD}
+use lib.ListN.{length}
 use borrow.Author.Tests.{le-leb, le-ltb, eq-eqb}
 use Rattle.rules.specs.Tools.{pick, without, winner, highestLayer, foremost}
 use Rattle.rules.specs.HandedOver.{Plate, Contour, contours, vertexAt, layerAt, orderRoom, straightRoom, retraceRoom, Answer, gives, firstBad}
-use Rattle.rules.specs.HandedOver.{RefusalRow, refusedBy, badLayerCount, badLayer, workShort, full, contourRows, inputRows, plateRows, orderRows, retraceWork, retraceRows, after}
-use Rattle.rules.specs.Start.{centre, Oriented, ends, layerOf, beats, start}
+use Rattle.rules.specs.HandedOver.{RefusalRow, refusedBy, badLayerCount, badLayer, tooManyContours, tooManyPoints, miscounted, offThePlate, workShort, full, parkedCoordinates, inputRows, plateRows, orderRows, retraceWork, retraceRows, after}
+use Rattle.rules.specs.Start.{measuredFrom, Oriented, ends, layerOf, beats, start}
 use Rattle.rules.specs.GridAndNearest.{gridOf}
 use Rattle.rules.specs.SamplesAndCache.{Waiting, waiting, seed, update, keep, cellsAround}
 use Rattle.rules.specs.RetraceAndMarks.{Step, begin, pathPoints, closer, waitingLayer, choose, waitingNumber, entered, joinAll, retraceFrom, retraceOf, retrace, coordinates, marks}
@@ -30,7 +30,7 @@ use Rattle.path.specs.Ordering.{all-nearer}
 -- ---- without layers
 
 unfoldable pub plainStart : Plate → Option Oriented
-plainStart p = winner (beats (p .strategy)) (ends p (centre (p .width) (p .height)) (contours p))
+plainStart p = winner (beats (p .strategy)) (ends p (measuredFrom (p .strategy) (p .width) (p .height)) (contours p))
 
 unfoldable pub plainOrderAfter : Plate → ℕ → List Contour → Oriented → List Oriented
 plainOrderAfter p zero cs s = []
@@ -75,7 +75,13 @@ unfoldable pub plainRetrace : Plate → List Step
 plainRetrace p = plainRetraceOf p (plainStart p)
 
 unfoldable pub plainRows : Plate → List RefusalRow
-plainRows p = contourRows (p .points) (p .lengths)
+plainRows p =
+    tooManyContours (p .lengths)
+    ∷ tooManyPoints (p .lengths)
+    ∷ miscounted (p .points) (p .lengths)
+    ∷ offThePlate (parkedCoordinates (p .strategy))
+    ∷ offThePlate (p .points)
+    ∷ []
 
 unfoldable pub plainStartCall : Plate → Answer (ℕ × Bool)
 plainStartCall p = refusedBy (plainRows p) (startOr (plainStart p))
@@ -201,11 +207,11 @@ one-layered p l low e a =
 
 module _ (p : Plate) (l : ℕ) (h : OneLayered p l) where
   rows-plain : {A : Type 0} (rs : List RefusalRow) (later : Answer A) → refusedBy (plateRows p ++ rs) later ≡ refusedBy (plainRows p ++ rs) later
-  unfolding plainRows contourRows inputRows refusedBy pick
+  unfolding plainRows inputRows refusedBy pick
   rows-plain rs later = let (n, (b, t)) = layered-passes (length (p .lengths)) (p .layers) (h .layers) in rw (n, b)
 
   pub start-call-plain : startCall p ≡ plainStartCall p
-  unfolding startCall plainStartCall plainRows contourRows inputRows
+  unfolding startCall plainStartCall plainRows inputRows
   start-call-plain = rw (start-plain p l (h .low) (h .one)) (rows-plain [] _)
 
   pub order-call-plain : (slice : List ℕ) (w : ℕ) → orderCall p slice w ≡ plainOrderCall p slice w

@@ -23,7 +23,7 @@
 --
 -- The pairs are proved in Entering (over Pairs, Runs and Emission; the nine cells in Nearest, over Squares and Rings), the numbers in Totals (over Shares),
 -- both by the induction over the joining in Joining; the slices in Slices; and what a result says of the plate in Accepted. Assumes nothing.
-use mathlib.Core.Path.{_≡_, refl, sym, ap, _∙_, subst}
+use mathlib.Core.Path.{_≡_, refl, sym, ap, _∙_}
 use mathlib.Core.List.{List, [], _∷_, _++_}
 use Prim.Native.Nat.{ℕ, suc, _*_, _≤_, _<_}
 use native.Mathlib.Omega.{arith}
@@ -77,8 +77,8 @@ pub retrace-gives : (p : Plate) (path : List Float) (ms : List ℕ) (w d : ℕ) 
     Accepted (p .points) (p .lengths) × AllTakePart p × (c ≡ counts (retrace p))
 unfolding retraceCall retraceRows
 retrace-gives p path ms w d c e =
-    let accepted = input-gives (p .points) (p .lengths) (p .layers) _ c (sym (rows-append (plateRows p) _ _) ∙ e) in
-    let same = rows-give _ _ c (accepted .2) .1 in
+    let accepted = input-gives (p .points) (p .lengths) (p .layers) (p .strategy) _ c (sym (rows-append (plateRows p) _ _) ∙ e) in
+    let same = rows-give _ _ c (accepted .3) .1 in
     (accepted .0, layered-part p (accepted .1), cc same)
 
 -- and with refusal 6
@@ -89,9 +89,9 @@ retrace-full p path ms w d k e =
     let c = retraceRoom (length path) (length ms) in
     let n = length (retrace p) in
     let works = workShort w (retraceWork p c) 0 ∷ workShort d (length (p .lengths)) 1 ∷ [] in
-    let lacks = input-lacks (p .points) (p .lengths) (p .layers) .0 in
-    let accepted = input-other (p .points) (p .lengths) (p .layers) _ (refuses 6 k) (lacks-other Counts 6 k (plateRows p) lacks) (sym (rows-append (plateRows p) _ _) ∙ e) in
-    let last = rows-other works (refusedBy (full c n ∷ []) _) (refuses 6 k) (lacks-other Counts 6 k works tt) (accepted .2) .1 in
+    let lacks = input-lacks (p .points) (p .lengths) (p .layers) (p .strategy) .0 in
+    let accepted = input-other (p .points) (p .lengths) (p .layers) (p .strategy) _ (refuses 6 k) (lacks-other Counts 6 k (plateRows p) lacks) (sym (rows-append (plateRows p) _ _) ∙ e) in
+    let last = rows-other works (refusedBy (full c n ∷ []) _) (refuses 6 k) (lacks-other Counts 6 k works tt) (accepted .3) .1 in
     let (beyond, same) = row-tells (full c n) _ k tt last in
     (accepted .0, layered-part p (accepted .1), sym same, omega (arith, ltb→lt c n beyond, same))
 

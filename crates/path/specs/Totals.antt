@@ -14,7 +14,7 @@ use Rattle.rules.specs.RetraceAndMarks.{cutKind, jumpKind, touchKind, Step, lan
 use Rattle.rules.specs.PathStatement.{contourCount, segmentsOf, segmentCount, IsContour, cutsOf}
 use Rattle.path.specs.Lists.{all-of, all-give, length-upFrom}
 use Rattle.path.specs.Sums.{sum-ones, sum-zeros, indicator, sum-absent, sum-once}
-use Rattle.path.specs.Contours.{Apart, others, others-apart, sum-others, contours-rise, sum-segments}
+use Rattle.path.specs.Contours.{Apart, others, others-apart, sum-others, contours-rise}
 use Rattle.path.specs.Start.{AllTakePart}
 use Rattle.path.specs.Shares.{Weights, share, retrace-total}
 

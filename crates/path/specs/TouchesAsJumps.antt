@@ -2,7 +2,7 @@
 -- those of crates/rules/specs with `jumpKind` where those have `landingKind ..`. Assumes nothing.
 use mathlib.Core.Path.{_≡_, refl, sym, ap, _∙_, fun-ext}
 use mathlib.Core.Bool.{Bool, true, false}
-use mathlib.Core.List.{List, [], _∷_, _++_, map, map-append, map-map}
+use mathlib.Core.List.{List, [], _++_, map, map-append, map-map}
 use mathlib.Core.Option.{Option, none, some}
 use Prim.Native.Nat.{ℕ, zero, suc, _+_, _-_}
 use lib.Dec.{eqb}

@@ -1,13 +1,14 @@
-// The input checks that the calls share: refusals 1 to 3, 13 and 4, in their order.
+// The input checks that the calls share: refusals 1 to 3, 13 and 4, in their order, the parked point's 4 before the contours'.
 ghost use mathlib.Core.Path.{_≡_};
 ghost use Prim.Native.Nat.{_≤_};
 ghost use lib.ListN.{length};
 ghost use Rattle.rules.specs.Tools.{sum};
 ghost use mathlib.Core.List.{[], _∷_};
-ghost use Rattle.rules.specs.HandedOver.{gives, inRange, plateLimit, firstOff, firstBad, refusedBy, offThePlate, contourRows, inputRows};
+ghost use Rattle.rules.specs.HandedOver.{gives, inRange, plateLimit, firstOff, firstBad, refusedBy, offThePlate, contourRows, parkedCoordinates, inputRows};
 ghost use Rattle.plate.specs.Answer.{checkedAnswer, countRows};
 use rules::HIGHEST_LAYER;
 use rules::Refusal;
+use rules::StartPointStrategy;
 
 // The number of points, or why the plate is refused.
 pub enum Checked {
@@ -81,7 +82,7 @@ fn check_counts(points: &[f64], lengths: &[u32]) -> Checked
     Checked::Sound(total as u32)
 }
 
-// Refusal 4, of points that refusals 1 to 3 let pass, else the answer before it.
+// Refusal 4, of coordinates whose places fit 32 bits, else the answer behind it.
 fn check_points(points: &[f64], answer: Checked) -> Checked
     requires { ⌜ length (now points) ≤ 131072 ⌝ }
     ensures { λ r. ⌜ checkedAnswer r ≡ refusedBy (offThePlate (now (points .entry)) ∷ []) (checkedAnswer answer) ⌝ }
@@ -91,6 +92,17 @@ fn check_points(points: &[f64], answer: Checked) -> Checked
         return Checked::Unsound(Refusal::OffThePlate(k as u32));
     }
     answer
+}
+
+// Refusal 4, of the parked point, its place within that point, else the answer behind it.
+fn check_parked(strategy: StartPointStrategy, answer: Checked) -> Checked
+    ensures { λ r. ⌜ checkedAnswer r ≡ refusedBy (offThePlate (parkedCoordinates strategy) ∷ []) (checkedAnswer answer) ⌝ }
+{
+    match strategy {
+        StartPointStrategy::Outside => answer,
+        StartPointStrategy::Inside => answer,
+        StartPointStrategy::Home(parked) => check_points(&[parked.x, parked.y], answer),
+    }
 }
 
 // Refusals 1 to 4, of contours without layers.
@@ -105,8 +117,13 @@ pub fn check_contours(points: &[f64], lengths: &[u32]) -> Checked
 }
 
 // Refusals 1 to 3, 13 and 4.
-pub fn check(points: &[f64], lengths: &[u32], layers: &[u32]) -> Checked
-    ensures { λ r. ⌜ checkedAnswer r ≡ refusedBy (inputRows (now (points .entry)) (now (lengths .entry)) (now (layers .entry))) (gives (sum (now (lengths .entry)))) ⌝ }
+pub fn check(
+    points: &[f64],
+    lengths: &[u32],
+    layers: &[u32],
+    strategy: StartPointStrategy,
+) -> Checked
+    ensures { λ r. ⌜ checkedAnswer r ≡ refusedBy (inputRows (now (points .entry)) (now (lengths .entry)) (now (layers .entry)) strategy) (gives (sum (now (lengths .entry)))) ⌝ }
 {
     let counted = check_counts(points, lengths);
     let Checked::Sound(_) = counted else {
@@ -119,5 +136,7 @@ pub fn check(points: &[f64], lengths: &[u32], layers: &[u32]) -> Checked
     if b < layers.len() {
         return Checked::Unsound(Refusal::BadLayer(b as u32));
     }
-    check_points(points, counted)
+    // The parked point's refusal goes over the coordinates', so it comes first.
+    let checked = check_points(points, counted);
+    check_parked(strategy, checked)
 }

@@ -1,9 +1,12 @@
 // Replays the reference's recorded plates by the retrace call. Standard input holds them as words (crate words): the number of rows, then
-// the rows. A row has ten words (the number of coordinates, the number of lengths, the number of layers, width, height, 1 for Inside or 0,
-// the lengths of the path, marks, u32 work and f64 work slices), the coordinates, the lengths, the layers, the call's seven numbers, and the
-// path and the marks slices as the call leaves them. Prints how many rows there were and how many differed.
+// the rows. A row has twelve words (the number of coordinates, the number of lengths, the number of layers, width, height, 0 for Outside,
+// 1 for Inside or 2 for Home, the lengths of the path, marks, u32 work and f64 work slices, x and y of the parked point), the coordinates,
+// the lengths, the layers, the call's seven numbers, and the path and the marks slices as the call leaves them. Prints how many rows there
+// were and how many differed.
 ghost use Prim.Native.Nat.{_≤_};
+use twillharbor::RetraceResult;
 use twillharbor::twillharbor_retrace;
+use twillharbor::twillharbor_retrace_home;
 use words::copy_floats;
 use words::copy_numbers;
 use words::ends_at;
@@ -12,23 +15,70 @@ use words::numbers_differ;
 use words::word_at;
 
 // A text of as many bytes, or more, is no list.
-const ROOM: usize = 262144;
+const ROOM: usize = 393216;
 
 // As many words fit.
-const WORDS: usize = 15420;
+const WORDS: usize = 23130;
 
 // What the call answers: number, place, points, cuts, back-steps, jumps and touches.
 const NUMBERS: usize = 7;
 
-// The arguments of the call on a plate behind its layers; of the slices lent, the lengths.
-struct Arguments {
+// The number of Home among the strategies; Outside is 0 and Inside 1.
+const HOME: u32 = 2;
+
+// Where the path starts: the parked point counts with Home alone, the size without it.
+struct Strategy {
+    number: u32,
     width: u32,
     height: u32,
-    inside: bool,
+    home_x: f64,
+    home_y: f64,
+}
+
+// The arguments of the call on a plate behind its layers; of the slices lent, the lengths.
+struct Arguments {
+    from: Strategy,
     path: usize,
     marks: usize,
     work: usize,
     distances: usize,
+}
+
+fn retraced(
+    points: &[f64],
+    lengths: &[u32],
+    layers: &[u32],
+    from: Strategy,
+    path: &mut [f64],
+    marks: &mut [u32],
+    work: &mut [u32],
+    distances: &mut [f64],
+) -> RetraceResult {
+    if from.number == HOME {
+        return twillharbor_retrace_home(
+            points,
+            lengths,
+            layers,
+            from.home_x,
+            from.home_y,
+            path,
+            marks,
+            work,
+            distances,
+        );
+    }
+    twillharbor_retrace(
+        points,
+        lengths,
+        layers,
+        from.width,
+        from.height,
+        from.number == 1,
+        path,
+        marks,
+        work,
+        distances,
+    )
 }
 
 // The call on a plate: its answer stands at word i, the marks at word j.
@@ -39,28 +89,15 @@ fn call_agrees(
     points: &[f64],
     lengths: &[u32],
     layers: &[u32],
-    width: u32,
-    height: u32,
-    inside: bool,
+    from: Strategy,
     path: &mut [f64],
     marks: &mut [u32],
     work: &mut [u32],
     distances: &mut [f64],
 ) -> bool
-    requires { ⌜ i ≤ 15500 ⌝ }
+    requires { ⌜ i ≤ 23500 ⌝ }
 {
-    let r = twillharbor_retrace(
-        points,
-        lengths,
-        layers,
-        width,
-        height,
-        inside,
-        path,
-        marks,
-        work,
-        distances,
-    );
+    let r = retraced(points, lengths, layers, from, path, marks, work, distances);
     let numbers = [
         r.number,
         r.place,
@@ -84,7 +121,7 @@ fn lent_agrees(
     layers: &[u32],
     handed: Arguments,
 ) -> bool
-    requires { ⌜ i ≤ 15500 ⌝ }
+    requires { ⌜ i ≤ 23500 ⌝ }
     requires { ⌜ handed .path ≤ 128 ⌝ }
     requires { ⌜ handed .marks ≤ 128 ⌝ }
     requires { ⌜ handed .work ≤ 16640 ⌝ }
@@ -101,9 +138,7 @@ fn lent_agrees(
         points,
         lengths,
         layers,
-        handed.width,
-        handed.height,
-        handed.inside,
+        handed.from,
         &mut lent_path[..handed.path],
         &mut lent_marks[..handed.marks],
         &mut lent_work[..handed.work],
@@ -124,7 +159,7 @@ fn plate_agrees(
     layers: &mut [u32],
     handed: Arguments,
 ) -> bool
-    requires { ⌜ l ≤ 15500 ⌝ }
+    requires { ⌜ l ≤ 23500 ⌝ }
     requires { ⌜ handed .path ≤ 128 ⌝ }
     requires { ⌜ handed .marks ≤ 128 ⌝ }
     requires { ⌜ handed .work ≤ 16640 ⌝ }
@@ -146,7 +181,7 @@ enum Row {
 
 // A row of n coordinates, which start at word i, m lengths and o layers.
 fn sized_row(text: &[u8], i: usize, n: usize, m: usize, o: usize, handed: Arguments) -> Row
-    requires { ⌜ i ≤ 15430 ⌝ }
+    requires { ⌜ i ≤ 23142 ⌝ }
 {
     if 40 < n
         || 12 < m
@@ -187,13 +222,20 @@ fn size(n: u32) -> usize {
 fn row_at(text: &[u8], i: usize) -> Row {
     let mut sizes = [0u32; 10];
     copy_numbers(text, i, &mut sizes);
-    if WORDS < i || numbers_differ(text, i, &sizes) != 0 || 1 < sizes[5] {
+    if WORDS < i || numbers_differ(text, i, &sizes) != 0 || HOME < sizes[5] {
         return Row::Broken;
     }
-    let handed = Arguments {
+    let mut home = [0.0f64; 2];
+    copy_floats(text, i + 10, &mut home);
+    let from = Strategy {
+        number: sizes[5],
         width: sizes[3],
         height: sizes[4],
-        inside: sizes[5] == 1,
+        home_x: home[0],
+        home_y: home[1],
+    };
+    let handed = Arguments {
+        from,
         path: size(sizes[6]),
         marks: size(sizes[7]),
         work: size(sizes[8]),
@@ -201,7 +243,7 @@ fn row_at(text: &[u8], i: usize) -> Row {
     };
     sized_row(
         text,
-        i + 10,
+        i + 12,
         size(sizes[0]),
         size(sizes[1]),
         size(sizes[2]),
@@ -212,7 +254,7 @@ fn row_at(text: &[u8], i: usize) -> Row {
 // How many of the rows differ. A broken row counts as one that differs, and is the last that is read; a text that does not end with the
 // last row has one more that differs.
 fn replay(text: &[u8], rows: u64) -> u64
-    requires { ⌜ rows ≤ 15420 ⌝ }
+    requires { ⌜ rows ≤ 23130 ⌝ }
 {
     let mut differ: u64 = 0;
     let mut i: usize = 1;
@@ -237,7 +279,7 @@ fn main() {
     let n = io::read_full(0, &mut bytes);
     let text = &bytes[..n];
     let rows = word_at(text, 0);
-    if n == ROOM || 15420 < rows {
+    if n == ROOM || 23130 < rows {
         io::write_all(1, b"no list\n");
         return;
     }

@@ -1,7 +1,7 @@
 -- The answer and the slices of the retrace call, by the way that it takes: refused by the checks, short of work, full, or whole. Assumes nothing.
 use mathlib.Core.Path.{_≡_, refl, sym, ap, _∙_}
 use mathlib.Core.List.{List, [], _∷_}
-use Prim.Native.Nat.{ℕ, zero, suc, _+_, _*_, _≤_, _<_}
+use Prim.Native.Nat.{ℕ, zero, suc, _*_, _≤_, _<_}
 use native.Mathlib.Omega.{arith}
 use lib.Ieee.{Float}
 use lib.ListN.{length, take}
@@ -85,7 +85,7 @@ module _ (p : Plate) (path : List Float) (ms work : List ℕ) (ds : List Float) 
   pub met-refused : (r : Refusal) (m : ℕ) → refusal r ≡ refusedBy (plateRows p) (gives m) → Met p path ms work ds (refusal r) path ms work ds
   unfolding retraceCall
   met-refused r m h =
-      let lacks = input-lacks (p .points) (p .lengths) (p .layers) .0 in
+      let lacks = input-lacks (p .points) (p .lengths) (p .layers) (p .strategy) .0 in
       rw (behind (length (retrace p)) (counts (retrace p))) (
         refusal-refuses (plateRows p) r m _ h,
         after-rows (plateRows p) lacks r m _ c _ path h,

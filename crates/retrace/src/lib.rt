@@ -83,7 +83,7 @@ pub fn retrace_call(
         × NeverFall p (n .points) (take (2 * n .points) (now (marks .exit))))
         × LandingsNear (now (path .exit)) (now (marks .exit)) (writtenPoints (retraceAnswer r)) ⌝ }
 {
-    let checked = check(points, lengths, layers);
+    let checked = check(points, lengths, layers, strategy);
     if let Checked::Unsound(r) = checked {
         return RetraceAnswer::NotJoined(r);
     }

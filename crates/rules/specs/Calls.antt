@@ -1,5 +1,5 @@
 -- What each call answers, and what its output slices hold afterwards: the refusals in their order, then the result. Definitions only.
-use Prim.Native.Nat.{ℕ, _*_}
+use Prim.Native.Nat.{ℕ}
 use mathlib.Core.Bool.{Bool}
 use mathlib.Core.List.{List, [], _∷_, map}
 use mathlib.Core.Option.{Option, none, some}

@@ -1,8 +1,8 @@
--- "What is handed over" of document 01, with the layers of document 02: points and contours, and the refusals that calls share, with their order and their
--- places. Definitions only.
+-- "What is handed over" of document 01, with the layers and the parked point of document 02: points and contours, and the refusals that calls share, with
+-- their order and their places. Definitions only.
 use mathlib.Core.Path.{_≡_}
 use Prim.Native.Nat.{ℕ, zero, suc, _+_, _*_, _/_, min}
-use mathlib.Core.Bool.{Bool, true, false, not, _&&_, _||_}
+use mathlib.Core.Bool.{Bool, false, not, _&&_, _||_}
 use mathlib.Core.List.{List, [], _∷_, _++_}
 use lib.Dec.{T, leb, ltb, eqb}
 use lib.ListN.{length, take, drop, getD}
@@ -13,6 +13,7 @@ use Rattle.rules.specs.Box.{box}
 use Rattle.rules.specs.declared.Point.{Point}
 use Rattle.rules.specs.declared.BoundingBox.{BoundingBox}
 use Rattle.rules.specs.declared.StartPointStrategy.{StartPointStrategy}
+use Rattle.rules.specs.declared.StartPointStrategy.the-variants.{Outside, Inside, Home}
 use Rattle.rules.specs.declared.Counts.{Counts}
 use Rattle.rules.specs.declared.Refusal.{Refusal}
 use Rattle.rules.specs.declared.Refusal.the-variants.{TooManyContours, TooManyPoints, Miscounted, OffThePlate, WorkShort, Full, Blank, NotDrawn, BadLayer}
@@ -51,6 +52,10 @@ pub record Plate : Type 0 where
 -- the plate's box is that of its points
 unfoldable pub plate : List Float → List ℕ → List ℕ → ℕ → ℕ → StartPointStrategy → Plate
 plate xs ns ls w h s = record { points = xs; lengths = ns; layers = ls; width = w; height = h; strategy = s; box = box xs }
+
+-- of a carriage that is parked at (x, y): with Home the size does not count
+unfoldable pub parkedPlate : List Float → List ℕ → List ℕ → Float → Float → Plate
+parkedPlate xs ns ls x y = plate xs ns ls 0 0 (Home (record { x = x; y = y }))
 
 -- the point at a place of an f64 slice: of the points, that of a vertex number
 unfoldable pub at : List Float → ℕ → Point
@@ -225,21 +230,29 @@ full c n = row (ltb c n) 6 c
 unfoldable pub contourRows : List Float → List ℕ → List RefusalRow
 contourRows xs ns = tooManyContours ns ∷ tooManyPoints ns ∷ miscounted xs ns ∷ offThePlate xs ∷ []
 
--- 1 to 3, 13 and 4, of contours with layers
-unfoldable pub inputRows : List Float → List ℕ → List ℕ → List RefusalRow
-inputRows xs ns ls =
+-- the coordinates of the parked point, where the strategy has one
+unfoldable pub parkedCoordinates : StartPointStrategy → List Float
+parkedCoordinates Outside = []
+parkedCoordinates Inside = []
+parkedCoordinates (Home parked) = parked .x ∷ parked .y ∷ []
+
+-- 1 to 3, 13 and 4, of contours with layers and of a strategy: the parked point's 4 comes before the contours' own
+unfoldable pub inputRows : List Float → List ℕ → List ℕ → StartPointStrategy → List RefusalRow
+inputRows xs ns ls s =
     tooManyContours ns
     ∷ tooManyPoints ns
     ∷ miscounted xs ns
     ∷ badLayerCount (length ns) ls
     ∷ badLayer ls
+    ∷ offThePlate (parkedCoordinates s)
     ∷ offThePlate xs
     ∷ []
 
 abbrev pub plateRows : Plate → List RefusalRow
-plateRows p = inputRows (p .points) (p .lengths) (p .layers)
+plateRows p = inputRows (p .points) (p .lengths) (p .layers) (p .strategy)
 
--- and then 5 and 6: w and d are the lengths of the u32 and the f64 work slice, c is C, and n points or entries are to be written
+-- and then 5 and 6, of order and straight, and of retrace: w and d are the lengths of the u32 and the f64 work slice, c is C, and n points or entries are to
+-- be written
 unfoldable pub orderRows : Plate → ℕ → ℕ → ℕ → List RefusalRow
 orderRows p w c n = plateRows p ++ (workShort w (length (p .lengths)) 0 ∷ full c n ∷ [])
 

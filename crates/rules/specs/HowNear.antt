@@ -54,7 +54,7 @@ writtenPoints (refuses number place) = pick (eqb number 6) place 0
 unfoldable pub AllF64 : List Float → Type 0
 AllF64 xs = (i : ℕ) → i < length xs → IsF64 (getD xs i nan)
 
--- no refusal of what is handed over: 1 to 4 and 13
+-- no refusal of what is handed over: 1 to 4 and 13, the parked point's 4 too
 unfoldable pub IsAccepted : Plate → Type 0
 IsAccepted p = refusedBy {A = Unit {0}} (plateRows p) (gives tt) ≡ gives tt
 

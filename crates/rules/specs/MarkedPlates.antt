@@ -3,8 +3,9 @@
 -- No expected value comes from the definitions. Paths, orders, starts, distances and grids are what the Rust gives for these plates, its functions unchanged.
 -- Marks are those of a separate transcription of the Rust that writes marks too, its paths being equal to the Rust's; counts are how many marks there are
 -- of a kind. A jump of these between equal points is a touch, kind 4, by document 02's text. Refusals, their places and what the slices then hold follow
--- document 01's text, and the rows of touches and of layers document 02's, worked out by hand. The row of a plate in another box than its points' own, which
--- the Rust cannot be given, is worked out by hand too.
+-- document 01's text, and the rows of touches, of layers and of the parked point document 02's, worked out by hand; with Home the starts, orders and paths are
+-- also what the Rust gives with Inside, its centre replaced by the parked point. The row of a plate in another box than its points' own, which the Rust cannot
+-- be given, is worked out by hand too.
 use mathlib.Core.Path.{_≡_, refl}
 use Prim.Native.Nat.{ℕ, zero, suc, _+_, _*_, _^_}
 use mathlib.Core.Bool.{Bool, true, false}
@@ -13,11 +14,11 @@ use lib.IntN.{pos, negsuc}
 use lib.ListN.{length, replicate}
 use lib.Ieee.{Float, nan, inf, fin, binary64, round, neg, add, sub, mul, div, rem, le, eq, ofInt, toUnsigned}
 use Rattle.rules.specs.Tools.{pick, sum, without, having, least, leads, winner, highestLayer, lowest, foremost, lesser, greater}
-use Rattle.rules.specs.HandedOver.{Plate, plate, at, contoursFrom, contours, vertexAt, layerAt, orderRoom, straightRoom, retraceRoom}
+use Rattle.rules.specs.HandedOver.{Plate, plate, parkedPlate, at, contoursFrom, contours, vertexAt, layerAt, orderRoom, straightRoom, retraceRoom}
 use Rattle.rules.specs.HandedOver.{Answer, gives, refuses, inRange, plateLimit, distanceLimit, firstOff, firstBad, refusedBy, tooManyContours, tooManyPoints, miscounted}
-use Rattle.rules.specs.HandedOver.{badLayerCount, badLayer, outOfRange, offThePlate, workShort, full, inputRows, orderRows, retraceWork, retraceRows, over, after}
+use Rattle.rules.specs.HandedOver.{badLayerCount, badLayer, outOfRange, offThePlate, workShort, full, parkedCoordinates, inputRows, orderRows, retraceWork, retraceRows, over, after}
 use Rattle.rules.specs.Distances.{mulAdd, rootBy, floorRoot, roundRoot, sqrt, distanceSquared, distance}
-use Rattle.rules.specs.Start.{half, centre, oriented, ends, layerOf, beats, start}
+use Rattle.rules.specs.Start.{half, centre, measuredFrom, oriented, ends, layerOf, beats, start}
 use Rattle.rules.specs.Box.{widen, boxFrom, box}
 use Rattle.rules.specs.GridAndNearest.{cellSize, ceiling, cellsAlong, gridOf, indexAlong, cellOf, square, within, onBorder}
 use Rattle.rules.specs.GridAndNearest.{seenFrom, found, wins, nearer, scanRing, bound, beyond, scanFrom, nearest}
@@ -32,7 +33,7 @@ use Rattle.rules.specs.Calls.{distanceCall, startOr, startCall, orderCal
 use Rattle.rules.specs.declared.Point.{Point}
 use Rattle.rules.specs.declared.Counts.{Counts}
 use Rattle.rules.specs.declared.StartPointStrategy.{StartPointStrategy}
-use Rattle.rules.specs.declared.StartPointStrategy.the-variants.{Outside, Inside}
+use Rattle.rules.specs.declared.StartPointStrategy.the-variants.{Outside, Inside, Home}
 
 -- ---- numbers
 
@@ -94,6 +95,18 @@ inLayers ls p = plate (p .points) (p .lengths) ls (p .width) (p .height) (p .str
 
 point : Float → Float → Point
 point a b = record { x = a; y = b }
+
+-- a plate with Home, its size being what it was
+withHome : Point → Plate → Plate
+withHome parked p = plate (p .points) (p .lengths) (p .layers) (p .width) (p .height) (Home parked)
+
+-- the same, parked at a point of whole numbers
+home : ℕ → ℕ → Plate → Plate
+home a b p = withHome (point (whole a) (whole b)) p
+
+-- points and lengths as they are handed over with a parked point
+handedWithHome : Point → List Float → List ℕ → Plate
+handedWithHome parked xs ns = parkedPlate xs ns (replicate (length ns) 0) (parked .x) (parked .y)
 
 -- marks (kind, reference) and order entries (contour, 1 if reversed), as a u32 slice has them
 unfoldable pub pairs : List (ℕ × ℕ) → List ℕ
@@ -359,7 +372,7 @@ table =
     -- the centre of an odd width, and of an odd height, is not a whole number: 3.5 is as far from 3 as from 4
     ∷ startOn (drawn whole ((3, 0) ∷ (4, 0) ∷ [] ∣ []) 7 0 Outside) ⇒ starts (gives (0, forward))
     ∷ startOn (drawn whole ((0, 3) ∷ (0, 4) ∷ [] ∣ []) 0 7 Outside) ⇒ starts (gives (0, forward))
-    -- of equal ends in two contours the first wins, for both strategies
+    -- of equal ends in two contours the first wins, with Outside and with Inside
     ∷ startOn (drawn whole ((1, 0) ∷ [] ∣ (0, 1) ∷ [] ∣ []) 0 0 Outside) ⇒ starts (gives (0, forward))
     ∷ startOn (drawn whole ((1, 0) ∷ [] ∣ (0, 1) ∷ [] ∣ []) 0 0 Inside) ⇒ starts (gives (0, forward))
     -- only ends count, and a later contour can win
@@ -766,22 +779,63 @@ table =
     -- points.
     ∷ rulesOn (inLayers (16 ∷ 15 ∷ 17 ∷ []) threePoints) ⇒ ruled (gives (1, forward)) (pairs ((1, 0) ∷ [])) (pairs ((0, 1) ∷ []))
     ∷ rulesOn (inLayers (16 ∷ 17 ∷ 16 ∷ []) threePoints) ⇒ ruled (refuses 7 0) [] []
+    -- ---- the parked point
+    -- parked on a last point
+    ∷ startOn (home 4 0 D) ⇒ starts (gives (0, reversed))
+    -- of equal ends the first point comes before the last, and a contour's last point before a later contour's first
+    ∷ startOn (home 2 0 (B Inside)) ⇒ starts (gives (0, forward))
+    ∷ startOn (home 4 0 (drawn whole ((9, 9) ∷ (4, 0) ∷ [] ∣ (4, 0) ∷ (9, 9) ∷ [] ∣ []) 0 0 Inside)) ⇒ starts (gives (0, reversed))
+    -- a smaller distance wins over an earlier end; the centre does not count, whatever the size
+    ∷ startOn (home 90 0 (drawn whole ((0, 0) ∷ (4, 0) ∷ [] ∣ (90, 0) ∷ (95, 0) ∷ [] ∣ []) 10 10 Inside)) ⇒ starts (gives (1, forward))
+    -- −0 and a subnormal number pass; with 2^−537 the squared distances are 2^−1074 and 0
+    ∷ startOn (handedWithHome (point (neg (whole 0)) (binary 1 1074)) (along whole ((0, 1) ∷ (0, 0) ∷ [])) (2 ∷ [])) ⇒ starts (gives (0, reversed))
+    ∷ startOn (handedWithHome (point (binary 1 537) (whole 0)) (whole 0 ∷ whole 0 ∷ binary 1 537 ∷ whole 0 ∷ []) (2 ∷ [])) ⇒ starts (gives (0, reversed))
+    -- a magnitude of 1,000,000 passes, however far the contours are
+    ∷ startOn (withHome (point (whole 1000000) (neg (whole 1000000))) (B Inside)) ⇒ starts (gives (0, reversed))
+    ∷ startOn (withHome (point (neg (whole 1000000)) (whole 1000000)) (B Inside)) ⇒ starts (gives (0, forward))
+    -- 4: the next f64 above gets it, place 0 or 1 within the point; so do an infinity and a NaN; the first of two gives the place
+    ∷ startOn (withHome (point abovePlateLimit nan) D) ⇒ starts (refuses 4 0)
+    ∷ startOn (withHome (point (whole 0) (neg abovePlateLimit)) D) ⇒ starts (refuses 4 1)
+    ∷ startOn (withHome (point (inf true) (whole 0)) D) ⇒ starts (refuses 4 0)
+    -- before the coordinates' own 4, whose place is in the slice
+    ∷ startOn (handedWithHome (point (whole 0) nan) (nan ∷ whole 0 ∷ []) (1 ∷ [])) ⇒ starts (refuses 4 1)
+    ∷ startOn (handedWithHome zeroPoint (whole 0 ∷ whole 0 ∷ nan ∷ whole 0 ∷ []) (2 ∷ [])) ⇒ starts (refuses 4 2)
+    -- after 3 and both kinds of 13; before 5, in each call, and 7; no slice is altered
+    ∷ startOn (handedWithHome (point nan nan) (whole 0 ∷ []) (1 ∷ [])) ⇒ starts (refuses 3 0)
+    ∷ startOn (inLayers (0 ∷ []) (withHome (point nan nan) D)) ⇒ starts (refuses 13 2)
+    ∷ startOn (inLayers (0 ∷ 16 ∷ []) (withHome (point nan nan) D)) ⇒ starts (refuses 13 1)
+    ∷ orderOn (withHome (point (whole 0) nan) D) 4 0 ⇒ ordered (refuses 4 1) (unwritten 4)
+    ∷ straightOn (withHome (point (whole 0) nan) D) 4 0 ⇒ straightened (refuses 4 1) (unwrittenPath 4)
+    ∷ retraceOn (withHome (point (whole 0) nan) D) 4 4 0 0 ⇒ retraced (refuses 4 1) (unwrittenPath 4) (unwritten 4)
+    ∷ startOn (withHome (point (whole 0) nan) A) ⇒ starts (refuses 4 1)
+    -- order and straight; the nearest end of the lowest layer, though one of another layer is nearer
+    ∷ orderIn 3 (home 1 0 threePoints) ⇒ ordered (gives 3) (pairs ((1, 0) ∷ (0, 0) ∷ (2, 0) ∷ []))
+    ∷ straightIn 3 (home 1 0 threePoints) ⇒ straightened (gives 3) (along whole ((1, 0) ∷ (0, 0) ∷ (0, 2) ∷ []))
+    ∷ orderIn 4 (inLayers (1 ∷ 0 ∷ 0 ∷ 0 ∷ []) (home 3 0 (drawn whole ((3, 0) ∷ [] ∣ (0, 0) ∷ [] ∣ (1, 0) ∷ (2, 0) ∷ [] ∣ (9, 0) ∷ [] ∣ []) 0 0 Inside)))
+    ⇒ ordered (gives 4) (pairs ((2, 1) ∷ (1, 0) ∷ (3, 0) ∷ (0, 0) ∷ []))
+    -- retrace: F from (9,1), which is another path than F's own; refusal 6 leaves the first C points
+    ∷ retraces (home 9 1 F)
+    (along whole ((8, 1) ∷ (4, 1) ∷ (0, 1) ∷ (4, 1) ∷ (4, 0) ∷ []))
+    ((0, 3) ∷ (1, 2) ∷ (1, 1) ∷ (2, 1) ∷ (3, 0) ∷ [])
+    (joined 5 2 1 1)
+    ∷ retraceIn 3 (home 9 1 F)
+    ⇒ retraced (refuses 6 3) (along whole ((8, 1) ∷ (4, 1) ∷ (0, 1) ∷ [])) (pairs ((0, 3) ∷ (1, 2) ∷ (1, 1) ∷ []))
     ∷ []
 
 -- each row's reply is what the definitions reply
 pub plates : map (λ r. replyTo (r .call)) table ≡ map (λ r. r .reply) table
 unfolding
-    table whole decimal binary tenths minusTenths hundredths thousandths sixteenths sixtyFourths _∣_ along pointsOf drawn handed inLayers point pairs
+    table whole decimal binary tenths minusTenths hundredths thousandths sixteenths sixtyFourths _∣_ along pointsOf drawn handed inLayers point withHome home handedWithHome pairs
     unwritten unwrittenPath forward reversed touching joined _⇒_ orderIn straightIn retraceIn retraces numeral computed bothComputed replyTo
     A B C D E F G zeroPoint I skipping middled overMiddle inWideBox threePoints fourPoints skippedFirst abovePlateLimit aboveDistanceLimit
     -- floats
     neg add sub mul div rem le eq ofInt toUnsigned
     -- Tools, HandedOver
-    pick sum without having least leads winner highestLayer lowest foremost lesser greater plate at contoursFrom contours vertexAt layerAt orderRoom straightRoom retraceRoom
+    pick sum without having least leads winner highestLayer lowest foremost lesser greater plate parkedPlate at contoursFrom contours vertexAt layerAt orderRoom straightRoom retraceRoom
     inRange plateLimit distanceLimit firstOff firstBad refusedBy tooManyContours tooManyPoints miscounted badLayerCount badLayer outOfRange offThePlate
-    workShort full inputRows orderRows retraceWork retraceRows over after
+    workShort full parkedCoordinates inputRows orderRows retraceWork retraceRows over after
     -- Distances, Start
-    mulAdd rootBy floorRoot roundRoot sqrt distanceSquared distance half centre oriented ends layerOf beats start
+    mulAdd rootBy floorRoot roundRoot sqrt distanceSquared distance half centre measuredFrom oriented ends layerOf beats start
     -- GridAndNearest
     widen boxFrom box cellSize ceiling cellsAlong gridOf indexAlong cellOf square within onBorder
     seenFrom found wins nearer scanRing bound beyond scanFrom nearest

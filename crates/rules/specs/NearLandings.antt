@@ -16,9 +16,9 @@ use lib.Ieee.{Float, nan, inf, fin, round, fits, neg, add, sub, mul, div, rem, l
 use Rattle.rules.specs.Tools.{pick, sum, without, having, least, leads, winner, highestLayer, lowest, foremost, lesser, greater}
 use Rattle.rules.specs.HandedOver.{Plate, plate, at, contoursFrom, contours, vertexAt, layerAt, Answer, gives, refuses, retraceRoom}
 use Rattle.rules.specs.HandedOver.{firstOff, firstBad, inRange, plateLimit, refusedBy, tooManyContours, tooManyPoints, miscounted, badLayerCount, badLayer, outOfRange, offThePlate}
-use Rattle.rules.specs.HandedOver.{workShort, full, inputRows, retraceWork, retraceRows, after, over}
+use Rattle.rules.specs.HandedOver.{workShort, full, parkedCoordinates, inputRows, retraceWork, retraceRows, after, over}
 use Rattle.rules.specs.Distances.{mulAdd, rootBy, floorRoot, roundRoot, sqrt, distanceSquared, distance}
-use Rattle.rules.specs.Start.{half, centre, oriented, ends, layerOf, beats, start}
+use Rattle.rules.specs.Start.{half, centre, measuredFrom, oriented, ends, layerOf, beats, start}
 use Rattle.rules.specs.Box.{widen, boxFrom, box}
 use Rattle.rules.specs.GridAndNearest.{cellSize, ceiling, cellsAlong, gridOf, indexAlong, cellOf, square, within, onBorder}
 use Rattle.rules.specs.GridAndNearest.{seenFrom, found, wins, nearer, scanRing, bound, beyond, scanFrom, nearest}
@@ -165,7 +165,7 @@ unfolding
     passedOver passedPath passedMarks whole decimal tenths _∣_ along pointsOf drawn pairs
     neg add sub mul div rem lt le eq ofInt toUnsigned
     pick sum without having least leads winner highestLayer lowest foremost lesser greater plate at contoursFrom contours vertexAt layerAt
-    mulAdd rootBy floorRoot roundRoot sqrt distanceSquared distance half centre oriented ends layerOf beats start
+    mulAdd rootBy floorRoot roundRoot sqrt distanceSquared distance half centre measuredFrom oriented ends layerOf beats start
     widen boxFrom box cellSize ceiling cellsAlong gridOf indexAlong cellOf square within onBorder
     seenFrom found wins nearer scanRing bound beyond scanFrom nearest
     sampledAfter sampled cellNumber cellAt sampleAt samplesFrom samples cache cached querySample seeded
@@ -240,7 +240,7 @@ asked-f64 (suc (suc (suc (suc (suc (suc i)))))) l = absurd (omega (arith, l))
 
 pub asked : (inARow .box ≡ box (inARow .points)) × IsAccepted inARow
 unfolding
-    IsAccepted inARow refusedBy inputRows tooManyContours tooManyPoints miscounted badLayerCount badLayer outOfRange offThePlate
+    IsAccepted inARow refusedBy parkedCoordinates inputRows tooManyContours tooManyPoints miscounted badLayerCount badLayer outOfRange offThePlate
     firstOff firstBad inRange plateLimit
     decimal tenths _∣_ along pointsOf drawn plate round neg le pick sum highestLayer
 asked = (refl, refl)
@@ -257,11 +257,11 @@ pub given :
     × (HowNear → LandingsNear (along tenths ((0, 0) ∷ (1, 0) ∷ [])) (pairs ((0, 0) ∷ (3, 1) ∷ (9, 9) ∷ [])) 2)
 unfolding
     HowNearByRules HowNear inARow retraceCall retraceRoom retraceWork retraceRows workShort full after over counts marksOf countMarks writtenPoints
-    refusedBy inputRows tooManyContours tooManyPoints miscounted badLayerCount badLayer outOfRange offThePlate firstOff firstBad inRange plateLimit
+    refusedBy parkedCoordinates inputRows tooManyContours tooManyPoints miscounted badLayerCount badLayer outOfRange offThePlate firstOff firstBad inRange plateLimit
     whole decimal tenths _∣_ along pointsOf drawn pairs
     round fits neg add sub mul div rem lt le eq ofInt toUnsigned
     pick sum without having least leads winner highestLayer lowest foremost lesser greater plate at contoursFrom contours vertexAt layerAt
-    mulAdd rootBy floorRoot roundRoot sqrt distanceSquared distance half centre oriented ends layerOf beats start
+    mulAdd rootBy floorRoot roundRoot sqrt distanceSquared distance half centre measuredFrom oriented ends layerOf beats start
     widen boxFrom box cellSize ceiling cellsAlong gridOf indexAlong cellOf square within onBorder
     seenFrom found wins nearer scanRing bound beyond scanFrom nearest
     sampledAfter sampled cellNumber cellAt sampleAt samplesFrom samples cache cached querySample seeded

@@ -1,7 +1,7 @@
 -- "Retrace and marks" of document 01, with the layers and the touches of document 02. Every path point has the coordinates of a vertex, so the path is a list
 -- of steps, each a vertex and a mark; the slices are its coordinates and its marks. Definitions only.
-use Prim.Native.Nat.{ℕ, zero, suc, _+_, _-_, _*_}
-use mathlib.Core.Bool.{Bool, true, false, _&&_}
+use Prim.Native.Nat.{ℕ, zero, suc, _+_, _-_}
+use mathlib.Core.Bool.{Bool, _&&_}
 use mathlib.Core.List.{List, [], _∷_, _++_, map}
 use mathlib.Core.Option.{Option, none, some}
 use lib.Dec.{eqb}

@@ -1,4 +1,4 @@
--- "Start" of document 01, with the layers of document 02. Definitions only.
+-- "Start" of document 01, with the layers and the parked point of document 02. Definitions only.
 use Prim.Native.Nat.{ℕ}
 use mathlib.Core.Bool.{Bool, true, false}
 use mathlib.Core.List.{List, [], _∷_}
@@ -10,7 +10,7 @@ use Rattle.rules.specs.HandedOver.{Plate, Contour, contours, vertexAt, l
 use Rattle.rules.specs.Distances.{distanceSquared}
 use Rattle.rules.specs.declared.Point.{Point}
 use Rattle.rules.specs.declared.StartPointStrategy.{StartPointStrategy}
-use Rattle.rules.specs.declared.StartPointStrategy.the-variants.{Outside, Inside}
+use Rattle.rules.specs.declared.StartPointStrategy.the-variants.{Outside, Inside, Home}
 
 unfoldable pub half : ℕ → Float
 half n = div binary64 (ofInt binary64 (pos n)) (fin false 1 (pos 1))
@@ -35,10 +35,17 @@ ends p q (c ∷ cs) = oriented p q false c ∷ oriented p q true c ∷ ends p q 
 unfoldable pub layerOf : Plate → Oriented → ℕ
 layerOf p s = layerAt p (s .contour)
 
--- Outside takes a strictly larger squared distance, Inside a strictly smaller one
+-- The strategies. Distances are taken from the centre, with Home from the parked point; a strictly larger squared distance beats the leader with Outside, a
+-- strictly smaller one with Inside and Home.
+unfoldable pub measuredFrom : StartPointStrategy → ℕ → ℕ → Point
+measuredFrom Outside width height = centre width height
+measuredFrom Inside width height = centre width height
+measuredFrom (Home parked) width height = parked
+
 unfoldable pub beats : StartPointStrategy → Oriented → Oriented → Bool
 beats Outside new best = lt (best .squared) (new .squared)
 beats Inside new best = lt (new .squared) (best .squared)
+beats (Home parked) new best = lt (new .squared) (best .squared)
 
 unfoldable pub start : Plate → Option Oriented
-start p = foremost (layerOf p) (beats (p .strategy)) (ends p (centre (p .width) (p .height)) (contours p))
+start p = foremost (layerOf p) (beats (p .strategy)) (ends p (measuredFrom (p .strategy) (p .width) (p .height)) (contours p))

@@ -1,8 +1,10 @@
 // The declared types and constants of the documents. Their definitions, in specs/, count path places and vertex numbers in ℕ.
 
+// Home carries the parked point.
 pub enum StartPointStrategy {
     Outside,
     Inside,
+    Home(Point),
 }
 
 pub struct Point {

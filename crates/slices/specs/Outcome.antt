@@ -48,7 +48,7 @@ module _ {B : Type 0} (p : Plate) (w c n : ℕ) (result slice : List B) (work : 
 
   pub met-refused : (r : Refusal) (m : ℕ) → refusal r ≡ refusedBy (plateRows p) (gives m) → Met (outcome p w c n) c result slice (refusal r) slice work work
   met-refused r m h =
-      let lacks = input-lacks (p .points) (p .lengths) (p .layers) .0 in
+      let lacks = input-lacks (p .points) (p .lengths) (p .layers) (p .strategy) .0 in
       rw behind (refusal-refuses (plateRows p) r m _ h, after-rows (plateRows p) lacks r m _ c result slice h, work-same _ work)
 
   module _ (m k : ℕ) (sound : refusedBy (plateRows p) (gives m) ≡ gives k) where

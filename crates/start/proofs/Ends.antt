@@ -1,8 +1,8 @@
 -- The ends of contours, one contour at a time. Assumes nothing.
-use mathlib.Core.Path.{_≡_, refl, sym, ap, ap₂, _∙_}
-use mathlib.Core.Bool.{Bool, true, false}
+use mathlib.Core.Path.{_≡_, refl, sym, ap, _∙_}
+use mathlib.Core.Bool.{true, false}
 use mathlib.Core.List.{List, [], _∷_}
-use mathlib.Core.Option.{Option, none, some}
+use mathlib.Core.Option.{Option, none}
 use Prim.Native.Nat.{ℕ, zero, suc, _+_, _-_, _<_, _≤_}
 use native.Mathlib.Nat.{add-zero}
 use native.Mathlib.Numerals.{add-one}
@@ -11,7 +11,7 @@ use lib.ListN.{length, getD, drop, drop-of-length-le}
 use lib.Seq.{drop-cons}
 use Rattle.rules.specs.Tools.{foldl}
 use Rattle.rules.specs.HandedOver.{Plate, Contour, contoursFrom, contours}
-use Rattle.rules.specs.Start.{Oriented, oriented, ends, layerOf, beats, centre, start}
+use Rattle.rules.specs.Start.{Oriented, oriented, ends, layerOf, beats, measuredFrom, start}
 use Rattle.rules.specs.declared.Point.{Point}
 use Rattle.path.specs.Layers.{leadsIn, foremost-is}
 use Rattle.rules.specs.declared.StartPointStrategy.{StartPointStrategy}
@@ -57,6 +57,6 @@ pub led-end : (p : Plate) (q : Point) (s : StartPointStrategy) (b : Option Orien
 unfolding contoursFrom ends
 led-end p q s b ns i v h = ap (λ (xs : List ℕ). led p q s b (contoursFrom i v xs)) (drop-of-length-le ns h)
 
-pub led-start : (p : Plate) → start p ≡ led p (centre (p .width) (p .height)) (p .strategy) none (contoursFrom 0 0 (p .lengths))
+pub led-start : (p : Plate) → start p ≡ led p (measuredFrom (p .strategy) (p .width) (p .height)) (p .strategy) none (contoursFrom 0 0 (p .lengths))
 unfolding start contours
 led-start p = foremost-is (layerOf p) (beats (p .strategy)) _

@@ -1,4 +1,4 @@
-// Where the path starts: the end of a contour that is farthest from the centre, or nearest to it.
+// Where the path starts: the end of a contour that is farthest from the centre, nearest to it, or nearest to the parked point.
 ghost use mathlib.Core.Path.{_≡_};
 ghost use Prim.Native.Nat.{_+_, _*_, _≤_, _<_};
 ghost use lib.ListN.{length};
@@ -63,6 +63,17 @@ pub fn image_center(width: u32, height: u32) -> Point
     }
 }
 
+// The point from which a strategy takes distances.
+fn measured_from(width: u32, height: u32, strategy: StartPointStrategy) -> Point
+    ensures { λ r. ⌜ r ≡ Start.measuredFrom strategy width height ⌝ }
+{
+    match strategy {
+        StartPointStrategy::Outside => image_center(width, height),
+        StartPointStrategy::Inside => image_center(width, height),
+        StartPointStrategy::Home(parked) => parked,
+    }
+}
+
 // The vertex at which a contour in a sense begins.
 pub fn first_end(c: Contour, reversed: bool) -> Vertex
     requires { ⌜ c .first .0 + c .last < 65536 ⌝ }
@@ -96,6 +107,7 @@ fn beats(strategy: StartPointStrategy, new: Oriented, best: Oriented) -> bool
     match strategy {
         StartPointStrategy::Outside => best.squared < new.squared,
         StartPointStrategy::Inside => new.squared < best.squared,
+        StartPointStrategy::Home(_) => new.squared < best.squared,
     }
 }
 
@@ -191,7 +203,7 @@ pub fn choose_start_contour(
     requires { ⌜ (Accepted (now points) (now lengths)) × (length (now layers) ≡ length (now lengths)) ⌝ }
     ensures { λ r. ⌜ leadOf r ≡ Start.start (plate (now (points .entry)) (now (lengths .entry)) (now (layers .entry)) width height strategy) ⌝ }
 {
-    let center = image_center(width, height);
+    let from = measured_from(width, height, strategy);
     let mut lead = Lead::Nothing;
     let mut first: u32 = 0;
     let mut i: usize = 0;
@@ -200,7 +212,7 @@ pub fn choose_start_contour(
         lead = try_contour(
             points,
             layers,
-            center,
+            from,
             strategy,
             lead,
             i as u32,
@@ -224,7 +236,7 @@ pub fn start_call(
 ) -> StartAnswer
     ensures { λ r. ⌜ startAnswer r ≡ startCall (plate (now (points .entry)) (now (lengths .entry)) (now (layers .entry)) width height strategy) ⌝ }
 {
-    let checked = check(points, lengths, layers);
+    let checked = check(points, lengths, layers, strategy);
     if let Checked::Unsound(r) = checked {
         return StartAnswer::NoStart(r);
     }

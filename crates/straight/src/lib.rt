@@ -112,7 +112,7 @@ pub fn straight_call(
         (let o = straightCall (plate (now (points .entry)) (now (lengths .entry)) (now (layers .entry)) width height strategy) (now (path .entry)) (length (now (work .entry))) in
         (straightAnswer r ≡ o .answer) × (now (path .exit) ≡ o .path) × WorkKept (o .answer) (now (work .entry)) (now (work .exit))) ⌝ }
 {
-    let checked = check(points, lengths, layers);
+    let checked = check(points, lengths, layers, strategy);
     if let Checked::Unsound(r) = checked {
         return StraightAnswer::NoStraight(r);
     }

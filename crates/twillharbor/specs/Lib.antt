@@ -1,2 +1,4 @@
 pub mod Results
 pub mod Refusals
+pub mod Retraced
+pub mod Telling

@@ -16,7 +16,7 @@ use Rattle.path.specs.Rows.{Other, Lacks, rows-append, rows-lack}
 use Rattle.path.specs.Accepted.{input-lacks}
 
 -- no refusal has the number of a result
-above-zero : (r : Refusal) → 1 ≤ numberOf r
+pub above-zero : (r : Refusal) → 1 ≤ numberOf r
 unfolding numberOf
 above-zero TooManyContours = omega arith
 above-zero TooManyPoints = omega arith
@@ -55,11 +55,11 @@ start-or (some s) = tt
 behind : {A : Type 0} (p : Plate) (rs : List RefusalRow) (later : Answer A) → Lacks 12 rs → Other 12 later → Other 12 (refusedBy (plateRows p ++ rs) later)
 behind p rs later l o =
     subst (Other 12) (sym (rows-append (plateRows p) rs later))
-    (rows-lack 12 (plateRows p) _ (input-lacks (p .points) (p .lengths) (p .layers) .1) (rows-lack 12 rs later l o))
+    (rows-lack 12 (plateRows p) _ (input-lacks (p .points) (p .lengths) (p .layers) (p .strategy) .1) (rows-lack 12 rs later l o))
 
 pub start-other : (p : Plate) → Other 12 (startCall p)
 unfolding startCall
-start-other p = rows-lack 12 (plateRows p) _ (input-lacks (p .points) (p .lengths) (p .layers) .1) (start-or (start p))
+start-other p = rows-lack 12 (plateRows p) _ (input-lacks (p .points) (p .lengths) (p .layers) (p .strategy) .1) (start-or (start p))
 
 pub order-other : (p : Plate) (slice : List ℕ) (w : ℕ) → Other 12 (orderCall p slice w .answer)
 unfolding orderCall orderRows workShort full every

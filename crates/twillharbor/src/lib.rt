@@ -1,13 +1,14 @@
 // The C interface. A result's number is 0; a refusal has its number and its place, and 0 in every other field.
 ghost use mathlib.Core.Path.{_≡_};
-ghost use Prim.Native.Nat.{ℕ, _*_, _/_, _≤_};
-ghost use lib.ListN.{length, take};
-ghost use Rattle.rules.specs.HandedOver.{plate, contoursOf, refuses, refusal, WorkKept};
-ghost use Rattle.rules.specs.PathStatement.{contourCount, Divides, NeverFall};
-ghost use Rattle.rules.specs.HowNear.{LandingsNear};
+ghost use Prim.Native.Nat.{ℕ, _/_};
+ghost use lib.ListN.{length};
+ghost use Rattle.rules.specs.HandedOver.{plate, parkedPlate, contoursOf, refuses, refusal, startAnswer, orderAnswer, straightAnswer, retraceAnswer, WorkKept};
+ghost use Rattle.rules.specs.declared.StartPointStrategy.the-variants.{Home};
+ghost use Rattle.path.specs.Rows.{Other};
 ghost use Rattle.rules.specs.PathCheck.{DividesByPoints, FirstFault, checkCall};
-ghost use Rattle.rules.specs.Calls.{distanceCall, startCall, orderCall, straightCall, retraceCall};
-ghost use Rattle.twillharbor.specs.Results.{pointOf, strategyOf, distanceResult, startResult, orderResult, straightResult, retraceResult, countsOf, writtenOf, checkResult};
+ghost use Rattle.rules.specs.Calls.{distanceCall, startCall, orderCall, straightCall};
+ghost use Rattle.twillharbor.specs.Results.{pointOf, strategyOf, distanceResult, startResult, orderResult, straightResult, retraceResult, checkResult};
+ghost use Rattle.twillharbor.specs.Retraced.{Retraced};
 ghost use Rattle.twillharbor.specs.Refusals.{PlaceOf32};
 use order::order_call;
 use path_check::check_path;
@@ -104,6 +105,12 @@ fn strategy_of(inside: bool) -> StartPointStrategy
     StartPointStrategy::Outside
 }
 
+fn home(x: f64, y: f64) -> StartPointStrategy
+    ensures { λ r. ⌜ r ≡ Home (pointOf x y) ⌝ }
+{
+    StartPointStrategy::Home(Point { x, y })
+}
+
 #[repr(C)]
 pub struct StartResult {
     pub number: u32,
@@ -112,19 +119,10 @@ pub struct StartResult {
     pub reversed: u32,
 }
 
-#[no_mangle]
-pub extern "C" fn twillharbor_start(
-    points: &[f64],
-    lengths: &[u32],
-    layers: &[u32],
-    width: u32,
-    height: u32,
-    inside: bool,
-) -> StartResult
-    ensures { λ r. ⌜ r ≡ startResult (startCall (plate (now (points .entry)) (now (lengths .entry)) (now (layers .entry)) width height (strategyOf inside))) ⌝ }
+fn start_result(answer: StartAnswer) -> StartResult
+    requires { ⌜ Other 12 (startAnswer answer) ⌝ }
+    ensures { λ r. ⌜ r ≡ startResult (startAnswer answer) ⌝ }
 {
-    let strategy = strategy_of(inside);
-    let answer = start_call(points, lengths, layers, width, height, strategy);
     match answer {
         StartAnswer::Start(contour, reversed) => StartResult {
             number: 0,
@@ -144,11 +142,63 @@ pub extern "C" fn twillharbor_start(
     }
 }
 
+#[no_mangle]
+pub extern "C" fn twillharbor_start(
+    points: &[f64],
+    lengths: &[u32],
+    layers: &[u32],
+    width: u32,
+    height: u32,
+    inside: bool,
+) -> StartResult
+    ensures { λ r. ⌜ r ≡ startResult (startCall (plate (now (points .entry)) (now (lengths .entry)) (now (layers .entry)) width height (strategyOf inside))) ⌝ }
+{
+    let strategy = strategy_of(inside);
+    let answer = start_call(points, lengths, layers, width, height, strategy);
+    start_result(answer)
+}
+
+#[no_mangle]
+pub extern "C" fn twillharbor_start_home(
+    points: &[f64],
+    lengths: &[u32],
+    layers: &[u32],
+    home_x: f64,
+    home_y: f64,
+) -> StartResult
+    ensures { λ r. ⌜ r ≡ startResult (startCall (parkedPlate (now (points .entry)) (now (lengths .entry)) (now (layers .entry)) «home_x» «home_y»)) ⌝ }
+{
+    let strategy = home(home_x, home_y);
+    let answer = start_call(points, lengths, layers, 0, 0, strategy);
+    start_result(answer)
+}
+
 #[repr(C)]
 pub struct OrderResult {
     pub number: u32,
     pub place: u32,
     pub entries: u32,
+}
+
+fn order_result(answer: OrderAnswer) -> OrderResult
+    requires { ⌜ Other 12 (orderAnswer answer) ⌝ }
+    ensures { λ r. ⌜ r ≡ orderResult (orderAnswer answer) ⌝ }
+{
+    match answer {
+        OrderAnswer::Entries(entries) => OrderResult {
+            number: 0,
+            place: 0,
+            entries,
+        },
+        OrderAnswer::NoOrder(r) => {
+            let n = numbers_of(r);
+            OrderResult {
+                number: n.number,
+                place: n.place,
+                entries: 0,
+            }
+        }
+    }
 }
 
 #[no_mangle]
@@ -178,21 +228,27 @@ pub extern "C" fn twillharbor_order(
         order,
         work,
     );
-    match answer {
-        OrderAnswer::Entries(entries) => OrderResult {
-            number: 0,
-            place: 0,
-            entries,
-        },
-        OrderAnswer::NoOrder(r) => {
-            let n = numbers_of(r);
-            OrderResult {
-                number: n.number,
-                place: n.place,
-                entries: 0,
-            }
-        }
-    }
+    order_result(answer)
+}
+
+#[no_mangle]
+pub extern "C" fn twillharbor_order_home(
+    points: &[f64],
+    lengths: &[u32],
+    layers: &[u32],
+    home_x: f64,
+    home_y: f64,
+    order: &mut [u32],
+    work: &mut [u32],
+) -> OrderResult
+    ensures { λ r. ⌜
+        (let p = parkedPlate (now (points .entry)) (now (lengths .entry)) (now (layers .entry)) «home_x» «home_y» in
+        let o = orderCall p (now (order .entry)) (length (now (work .entry))) in
+        (r ≡ orderResult (o .answer)) × (now (order .exit) ≡ o .order) × WorkKept (o .answer) (now (work .entry)) (now (work .exit))) ⌝ }
+{
+    let strategy = home(home_x, home_y);
+    let answer = order_call(points, lengths, layers, 0, 0, strategy, order, work);
+    order_result(answer)
 }
 
 #[repr(C)]
@@ -200,6 +256,27 @@ pub struct StraightResult {
     pub number: u32,
     pub place: u32,
     pub points: u32,
+}
+
+fn straight_result(answer: StraightAnswer) -> StraightResult
+    requires { ⌜ Other 12 (straightAnswer answer) ⌝ }
+    ensures { λ r. ⌜ r ≡ straightResult (straightAnswer answer) ⌝ }
+{
+    match answer {
+        StraightAnswer::Points(count) => StraightResult {
+            number: 0,
+            place: 0,
+            points: count,
+        },
+        StraightAnswer::NoStraight(r) => {
+            let n = numbers_of(r);
+            StraightResult {
+                number: n.number,
+                place: n.place,
+                points: 0,
+            }
+        }
+    }
 }
 
 #[no_mangle]
@@ -220,21 +297,27 @@ pub extern "C" fn twillharbor_straight(
 {
     let strategy = strategy_of(inside);
     let answer = straight_call(points, lengths, layers, width, height, strategy, path, work);
-    match answer {
-        StraightAnswer::Points(count) => StraightResult {
-            number: 0,
-            place: 0,
-            points: count,
-        },
-        StraightAnswer::NoStraight(r) => {
-            let n = numbers_of(r);
-            StraightResult {
-                number: n.number,
-                place: n.place,
-                points: 0,
-            }
-        }
-    }
+    straight_result(answer)
+}
+
+#[no_mangle]
+pub extern "C" fn twillharbor_straight_home(
+    points: &[f64],
+    lengths: &[u32],
+    layers: &[u32],
+    home_x: f64,
+    home_y: f64,
+    path: &mut [f64],
+    work: &mut [u32],
+) -> StraightResult
+    ensures { λ r. ⌜
+        (let p = parkedPlate (now (points .entry)) (now (lengths .entry)) (now (layers .entry)) «home_x» «home_y» in
+        let o = straightCall p (now (path .entry)) (length (now (work .entry))) in
+        (r ≡ straightResult (o .answer)) × (now (path .exit) ≡ o .path) × WorkKept (o .answer) (now (work .entry)) (now (work .exit))) ⌝ }
+{
+    let strategy = home(home_x, home_y);
+    let answer = straight_call(points, lengths, layers, 0, 0, strategy, path, work);
+    straight_result(answer)
 }
 
 #[repr(C)]
@@ -248,44 +331,10 @@ pub struct RetraceResult {
     pub touches: u32,
 }
 
-// Where the number is 0 and a contour holds a point, what was written divides as the path statement (rules/specs/PathStatement.antt) says. In all that was
-// written, with number 0 or 6, the landings are near (rules/specs/HowNear.antt).
-#[no_mangle]
-pub extern "C" fn twillharbor_retrace(
-    points: &[f64],
-    lengths: &[u32],
-    layers: &[u32],
-    width: u32,
-    height: u32,
-    inside: bool,
-    path: &mut [f64],
-    marks: &mut [u32],
-    work: &mut [u32],
-    distances: &mut [f64],
-) -> RetraceResult
-    ensures { λ r. ⌜
-        (let p = plate (now (points .entry)) (now (lengths .entry)) (now (layers .entry)) width height (strategyOf inside) in
-        let o = retraceCall p (now (path .entry)) (now (marks .entry)) (length (now (work .entry))) (length (now (distances .entry))) in
-        (r ≡ retraceResult (o .answer)) × (now (path .exit) ≡ o .path) × (now (marks .exit) ≡ o .marks)
-        × WorkKept (o .answer) (now (work .entry)) (now (work .exit)) × WorkKept (o .answer) (now (distances .entry)) (now (distances .exit))
-        × (r .number ≡ 0 →
-        (1 ≤ contourCount p → Divides p (countsOf r) (take (2 * r .points) (now (path .exit))) (take (2 * r .points) (now (marks .exit))))
-        × NeverFall p (r .points) (take (2 * r .points) (now (marks .exit))))
-        × LandingsNear (now (path .exit)) (now (marks .exit)) (writtenOf r)) ⌝ }
+fn retrace_result(answer: RetraceAnswer) -> RetraceResult
+    requires { ⌜ Other 12 (retraceAnswer answer) ⌝ }
+    ensures { λ r. ⌜ r ≡ retraceResult (retraceAnswer answer) ⌝ }
 {
-    let strategy = strategy_of(inside);
-    let answer = retrace_call(
-        points,
-        lengths,
-        layers,
-        width,
-        height,
-        strategy,
-        path,
-        marks,
-        work,
-        distances,
-    );
     match answer {
         RetraceAnswer::Joined(counts) => RetraceResult {
             number: 0,
@@ -309,6 +358,75 @@ pub extern "C" fn twillharbor_retrace(
             }
         }
     }
+}
+
+// `Retraced` (specs/Retraced.antt): answer and slices are those of the rules. Where the number is 0 and a contour holds a point, what was written divides as
+// the path statement (rules/specs/PathStatement.antt) says; where it is 0, the layers never fall along it. In all that was written, with number 0 or 6, the
+// landings are near (rules/specs/HowNear.antt).
+#[no_mangle]
+pub extern "C" fn twillharbor_retrace(
+    points: &[f64],
+    lengths: &[u32],
+    layers: &[u32],
+    width: u32,
+    height: u32,
+    inside: bool,
+    path: &mut [f64],
+    marks: &mut [u32],
+    work: &mut [u32],
+    distances: &mut [f64],
+) -> RetraceResult
+    ensures { λ r. ⌜
+        Retraced (plate (now (points .entry)) (now (lengths .entry)) (now (layers .entry)) width height (strategyOf inside))
+        (now (path .entry)) (now (marks .entry)) (now (work .entry)) (now (distances .entry)) (now (path .exit)) (now (marks .exit)) (now (work .exit)) (now (distances .exit)) r ⌝ }
+{
+    let strategy = strategy_of(inside);
+    let answer = retrace_call(
+        points,
+        lengths,
+        layers,
+        width,
+        height,
+        strategy,
+        path,
+        marks,
+        work,
+        distances,
+    );
+    retrace_result(answer)
+}
+
+// The path statement covers Home: the same promises, of the plate with the parked point.
+#[no_mangle]
+pub extern "C" fn twillharbor_retrace_home(
+    points: &[f64],
+    lengths: &[u32],
+    layers: &[u32],
+    home_x: f64,
+    home_y: f64,
+    path: &mut [f64],
+    marks: &mut [u32],
+    work: &mut [u32],
+    distances: &mut [f64],
+) -> RetraceResult
+    ensures { λ r. ⌜
+        Retraced (parkedPlate (now (points .entry)) (now (lengths .entry)) (now (layers .entry)) «home_x» «home_y»)
+        (now (path .entry)) (now (marks .entry)) (now (work .entry)) (now (distances .entry)) (now (path .exit)) (now (marks .exit)) (now (work .exit)) (now (distances .exit)) r ⌝ }
+{
+    let strategy = home(home_x, home_y);
+    let answer = retrace_call(
+        points,
+        lengths,
+        layers,
+        0,
+        0,
+        strategy,
+        path,
+        marks,
+        work,
+        distances,
+    );
+    retrace_result(answer)
 }
 
 #[repr(C)]

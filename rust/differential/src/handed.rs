@@ -36,6 +36,11 @@ impl<'a, Due, Tally> Handed<'a, Due, Tally> {
         Ok(Self { plate, strategy, tally, points, lengths, layers, due })
     }
 
+    /// Points, lengths and layers.
+    pub fn inputs(&self) -> (&[f64], &[u32], &[u32]) {
+        (self.points.slice(), self.lengths.slice(), self.layers.slice())
+    }
+
     pub fn inputs_kept(&self, call: &str) -> Result<(), String> {
         self.holds("points", call, self.points.altered())?;
         self.holds("lengths", call, self.lengths.altered())?;
@@ -44,8 +49,7 @@ impl<'a, Due, Tally> Handed<'a, Due, Tally> {
 
     /// The plate as the safe interface takes it: with its layers, and without where all are 0.
     pub fn plates(&self) -> Vec<twillharbor::Plate<'_>> {
-        let (points, lengths, layers) =
-            (self.points.slice(), self.lengths.slice(), self.layers.slice());
+        let (points, lengths, layers) = self.inputs();
         let mut plates = vec![twillharbor::Plate::with_layers(points, lengths, layers)];
         if layers.len() == lengths.len() && layers.iter().all(|&layer| layer == 0) {
             plates.push(twillharbor::Plate::new(points, lengths));

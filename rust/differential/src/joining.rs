@@ -1,5 +1,6 @@
 //! The start, order and straight calls against the reference's `choose_start_contour`,
-//! `optimize_path_order` and `join_straight_line`, with layers.
+//! `optimize_path_order` and `join_straight_line`, with layers; Home against the reference's Inside
+//! with the parked point for its centre.
 //!
 //! Every call is lent slices between margins of random bits, and all bits are compared
 //! afterwards: of the answer, of inputs and outputs, and of the work slice after every
@@ -8,19 +9,21 @@
 use std::sync::atomic::{AtomicU64, Ordering};
 
 use harness::random::Random;
-use twillharbor::StartPointStrategy::{self, Inside, Outside};
-use twillharbor::c;
+use twillharbor::StartPointStrategy::{self, Home, Inside, Outside};
+use twillharbor::{Point, Size, c};
 
 use crate::handed::{Handed, numbers};
 use crate::layers::{Met, in_seeded_layers};
 use crate::lent::{Lent, Number};
+use crate::parked;
 use crate::plates::{KINDS, Kind, Plate, damaged_somehow, plate};
 use crate::reference::{Results, results};
 use crate::rule::{self, NUMBERS, Refused};
 use crate::run::{self, Plan};
 
-/// How many damaged copies of each plate are handed over.
+/// How many damaged copies of each plate are handed over, and how many with Home.
 const COPIES: usize = 4;
+const HOME_COPIES: usize = 2;
 
 #[derive(Debug, Clone, Copy)]
 enum Call {
@@ -36,6 +39,7 @@ struct Tally {
     order: [AtomicU64; NUMBERS.len()],
     straight: [AtomicU64; NUMBERS.len()],
     met: Met,
+    parked: parked::Met,
 }
 
 impl Tally {
@@ -73,7 +77,8 @@ pub fn run(plan: Plan) -> bool {
             .map_err(|e| format!("{e}\n  again: differential plate --kind {number} --seed {seed}"))
     });
     tally.print();
-    tally.met.print(plan.pairs) && same
+    let met = [tally.met.print(plan.pairs), tally.parked.print(plan.pairs)];
+    met == [true; 2] && same
 }
 
 /// Compares one plate of a run: the kind by its number, and the plate's own seed.
@@ -89,26 +94,63 @@ pub fn run_one(kind: u64, seed: u64) -> Result<bool, String> {
 fn compare(kind: Kind, seed: u64, tally: &Tally) -> Result<(), String> {
     let random = &mut Random::new(seed);
     let plate = in_seeded_layers(plate(kind, random), seed);
-    if plate.points.len() > 1_000 || plate.lengths.len() > 50 {
-        sound(&plate, random.pick(&[Outside, Inside]), tally, 2, random)?;
+    let of_home = &mut parked::seeded(seed);
+    let most = if plate.points.len() > 1_000 || plate.lengths.len() > 50 {
+        let case = handed(&plate, random.pick(&[Outside, Inside]), tally, random)?;
+        sound(&case, 2, random)?;
+        2
     } else {
-        for strategy in [Outside, Inside] {
-            sound(&plate, strategy, tally, usize::MAX, random)?;
-        }
+        let most = usize::MAX;
+        sound(&handed(&plate, Outside, tally, random)?, most, random)?;
+        let inside = handed(&plate, Inside, tally, random)?;
+        sound(&inside, most, random)?;
+        at_the_centre(&inside, of_home)?;
+        most
+    };
+    for _ in 0..COPIES {
+        let copy = damaged_somehow(&plate, random);
+        refused(&copy, random.pick(&[Outside, Inside]), tally, random)?;
     }
-    (0..COPIES).try_for_each(|_| refused(&plate, tally, random))
+    home(&plate, tally, most, of_home)
+}
+
+/// The plate with a parked point, with one off the plate, and damaged copies with either.
+fn home(plate: &Plate, tally: &Tally, most: usize, random: &mut Random) -> Result<(), String> {
+    let on = parked::on_the_plate(plate, random);
+    let off = parked::off_the_plate(on, random);
+    sound(&handed(plate, Home(on), tally, random)?, most, random)?;
+    refused(plate, Home(off), tally, random)?;
+    for _ in 0..HOME_COPIES {
+        let copy = damaged_somehow(plate, random);
+        refused(&copy, Home(random.pick(&[on, off])), tally, random)?;
+    }
+    Ok(())
+}
+
+/// With the centre for its parked point the plate of a case of Inside gives what that one gives.
+fn at_the_centre(inside: &Case, random: &mut Random) -> Result<(), String> {
+    let plate = inside.plate;
+    let strategy = Home(rule::centre(plate.size));
+    // A centre may be off the plate.
+    let due = rule::checked(plate, strategy).and_then(|()| inside.due.clone());
+    inside.tally.parked.as_inside(&due);
+    let case = Case::new(plate, strategy, inside.tally, Ok(due), random)?;
+    case.start()?;
+    let contours = plate.lengths.len();
+    for count in [contours, random.below(contours as u64 + 1) as usize] {
+        case.order(2 * count, contours, random)?;
+    }
+    let points = plate.points.len() / 2;
+    for count in [points, random.below(points as u64 + 1) as usize] {
+        case.straight(2 * count, contours, random)?;
+    }
+    case.wrapper()
 }
 
 /// A plate as it is: results, and refusals 5, 6 and 7. At most `most` calls of order and of
 /// straight are made beside those with just enough room.
-fn sound(
-    plate: &Plate,
-    strategy: StartPointStrategy,
-    tally: &Tally,
-    most: usize,
-    random: &mut Random,
-) -> Result<(), String> {
-    let case = handed(plate, strategy, tally, random)?;
+fn sound(case: &Case, most: usize, random: &mut Random) -> Result<(), String> {
+    let plate = case.plate;
     let contours = plate.lengths.len();
     let entries = plate.lengths.iter().filter(|&&length| length > 0).count();
     let points = plate.points.len() / 2;
@@ -155,13 +197,17 @@ fn work(contours: usize, random: &mut Random) -> usize {
     }
 }
 
-/// A damaged copy, with one damage or several, and any slices.
-fn refused(plate: &Plate, tally: &Tally, random: &mut Random) -> Result<(), String> {
-    let copy = damaged_somehow(plate, random);
-    let case = handed(&copy, random.pick(&[Outside, Inside]), tally, random)?;
+/// A plate that is refused, for one reason or for several, and any slices.
+fn refused(
+    plate: &Plate,
+    strategy: StartPointStrategy,
+    tally: &Tally,
+    random: &mut Random,
+) -> Result<(), String> {
+    let case = handed(plate, strategy, tally, random)?;
     case.start()?;
     for _ in 0..2 {
-        let (room, work) = (random.below(40) as usize, work(copy.lengths.len(), random));
+        let (room, work) = (random.below(40) as usize, work(plate.lengths.len(), random));
         case.order(room, work, random)?;
         case.straight(room, work, random)?;
     }
@@ -180,7 +226,9 @@ fn handed<'a>(
     let due = results(plate, strategy);
     if let Ok(due) = &due {
         let held = due.as_ref().map(|results| results.held);
-        tally.met.plate(plate, strategy, held.map_err(|&refused| refused));
+        let held = held.map_err(|&refused| refused);
+        tally.met.plate(plate, strategy, held);
+        tally.parked.plate(plate, strategy, held.map(|_| ()));
     }
     Case::new(plate, strategy, tally, due, random)
 }
@@ -192,14 +240,12 @@ impl Case<'_> {
             Err((number, place)) => [number, place, 0, 0],
         };
         self.tally.count(Call::Start, due[0]);
-        let result = c::start(
-            self.points.slice(),
-            self.lengths.slice(),
-            self.layers.slice(),
-            self.plate.size.width,
-            self.plate.size.height,
-            self.strategy == Inside,
-        );
+        let (points, lengths, layers) = self.inputs();
+        let Size { width, height } = self.plate.size;
+        let result = match self.strategy {
+            Home(Point { x, y }) => c::start_home(points, lengths, layers, x, y),
+            base => c::start(points, lengths, layers, width, height, base == Inside),
+        };
         let is = [result.number, result.place, result.contour, result.reversed];
         self.same("number, place, contour and reversed", "Start call", &is, &due)?;
         self.inputs_kept("Start call")
@@ -214,16 +260,15 @@ impl Case<'_> {
         let due = self.due.as_ref().map(|results| &results.order[..]).map_err(|&refused| refused);
         let due = rule::outcome(due, self.plate.lengths.len(), work, rule::order_room(slice));
         self.joined(Call::Order, due, slice, work, random, |case, order, work| {
-            let result = c::order(
-                case.points.slice(),
-                case.lengths.slice(),
-                case.layers.slice(),
-                case.plate.size.width,
-                case.plate.size.height,
-                case.strategy == Inside,
-                order,
-                work,
-            );
+            let (points, lengths, layers) = case.inputs();
+            let Size { width, height } = case.plate.size;
+            let result = match case.strategy {
+                Home(Point { x, y }) => c::order_home(points, lengths, layers, x, y, order, work),
+                base => {
+                    let inside = base == Inside;
+                    c::order(points, lengths, layers, width, height, inside, order, work)
+                }
+            };
             [result.number, result.place, result.entries]
         })
     }
@@ -234,16 +279,15 @@ impl Case<'_> {
             self.due.as_ref().map(|results| &results.straight[..]).map_err(|&refused| refused);
         let due = rule::outcome(due, self.plate.lengths.len(), work, rule::straight_room(slice));
         self.joined(Call::Straight, due, slice, work, random, |case, path, work| {
-            let result = c::straight(
-                case.points.slice(),
-                case.lengths.slice(),
-                case.layers.slice(),
-                case.plate.size.width,
-                case.plate.size.height,
-                case.strategy == Inside,
-                path,
-                work,
-            );
+            let (points, lengths, layers) = case.inputs();
+            let Size { width, height } = case.plate.size;
+            let result = match case.strategy {
+                Home(Point { x, y }) => c::straight_home(points, lengths, layers, x, y, path, work),
+                base => {
+                    let inside = base == Inside;
+                    c::straight(points, lengths, layers, width, height, inside, path, work)
+                }
+            };
             [result.number, result.place, result.points]
         })
     }
@@ -261,6 +305,7 @@ impl Case<'_> {
         if due[0] == rule::BAD_LAYER {
             self.tally.met.lent(self.plate, work, slice);
         }
+        self.tally.parked.lent(self.plate, self.strategy, due[0], work, slice);
         let name = format!("{call:?} call, lent a slice of {slice} and work of {work}");
         let mut slice = Lent::random(slice, random);
         let mut work = Lent::random(work, random);

@@ -1,7 +1,7 @@
 //! Layers for plates, and a count of what a run meets of them.
 
 use harness::random::Random;
-use twillharbor::StartPointStrategy::{self, Inside, Outside};
+use twillharbor::StartPointStrategy::{self, Home, Inside, Outside};
 
 use crate::plates::{LAYERS, Plate};
 use crate::rule::{self, Held, Refused};
@@ -192,7 +192,7 @@ pub const CASES: [(Case, &str); 29] = [
 const ENOUGH: u64 = 10_000;
 
 /// How often each case was met. `one_layer` counts, by the layer, plates whose contours have one
-/// in common: those are compared with mujou's own functions too.
+/// in common: those are compared with mujou's own functions too, but for those with Home.
 #[derive(Debug, Default)]
 pub struct Met {
     one_layer: Tally<{ LAYERS as usize }>,
@@ -222,7 +222,9 @@ impl Met {
     }
 
     fn sound(&self, plate: &Plate, strategy: StartPointStrategy, held: Held) {
-        if let Some(layer) = plate.one_layer() {
+        if let Some(layer) = plate.one_layer()
+            && !matches!(strategy, Home(_))
+        {
             self.one_layer.count(layer as usize);
         }
         let mut times = [0_usize; LAYERS as usize];
@@ -248,7 +250,7 @@ impl Met {
         let start = rule::held_at_start(plate, strategy);
         self.count_if(start.nearer && strategy == Inside, Case::NearerStartWaits);
         self.count_if(start.nearer && strategy == Outside, Case::FartherStartWaits);
-        self.count_if(start.as_near, Case::StartsAsFar);
+        self.count_if(start.as_near && !matches!(strategy, Home(_)), Case::StartsAsFar);
         self.count_if(held.nearer, Case::NearerWaits);
         self.count_if(held.as_near, Case::AsNearWaits);
     }
@@ -322,7 +324,7 @@ mod tests {
                 let plate = small_plate(KINDS[turn % KINDS.len()].0, &mut random);
                 let layers = layers(layering, &plate, &mut random);
                 let plate = Plate { layers, ..plate };
-                assert_eq!(checked(&plate), Ok(()), "{layering:?}");
+                assert_eq!(checked(&plate, Inside), Ok(()), "{layering:?}");
                 several += u32::from(plate.held_layers().min() != plate.held_layers().max());
             }
             assert_eq!(several > 50, !matches!(layering, super::Layering::One), "{layering:?}");
@@ -334,7 +336,7 @@ mod tests {
         let plate = Plate::new(points, lengths.to_vec(), Size::default());
         let plate = Plate { layers: layers.to_vec(), ..plate };
         let met = Met::default();
-        met.plate(&plate, Inside, checked(&plate).map(|()| Held::default()));
+        met.plate(&plate, Inside, checked(&plate, Inside).map(|()| Held::default()));
         let counts = CASES.into_iter().zip(met.cases.numbers());
         counts.filter(|(_, met)| *met > 0).map(|(case, _)| case.0).collect()
     }

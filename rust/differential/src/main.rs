@@ -20,6 +20,7 @@ mod mujou;
 mod near;
 mod other_paths;
 mod pairs;
+mod parked;
 mod passed_over;
 mod paths;
 mod plates;

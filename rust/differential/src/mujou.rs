@@ -1,8 +1,12 @@
-//! mujou's functions as the runs call them: the reference's, and those of its copy with layers.
+//! mujou's functions as the runs call them: the reference's, those of its copy with layers, and
+//! those of the copy of that one whose centre is handed in.
 
-use twillharbor::{Size, StartPointStrategy};
+use twillharbor::StartPointStrategy::{self, Home, Inside, Outside};
+use twillharbor::{Point, Size};
 
-/// The reference, or its copy with layers. Empty contours are handed over too, but to `start`.
+use crate::rule::centre;
+
+/// The reference, or one of its copies. Empty contours are handed over too, but to `start`.
 pub trait Mujou {
     type Contour;
 
@@ -43,19 +47,36 @@ pub struct Plain;
 /// Those of the copy that is altered in its choices.
 pub struct Layered;
 
-/// The two packages have the same functions, each of its own types.
+/// Those of the copy with layers whose centre is handed in.
+pub struct Parked;
+
+/// What the centre is half of. There is no other point that distances are taken from.
+fn sides(strategy: StartPointStrategy, size: Size) -> [u32; 2] {
+    assert!(!matches!(strategy, Home(_)), "the centre is not handed in");
+    [size.width, size.height]
+}
+
+/// The centre that is handed in: with Home the parked point.
+fn parked(strategy: StartPointStrategy, size: Size) -> Point {
+    match strategy {
+        Home(point) => point,
+        Outside | Inside => centre(size),
+    }
+}
+
+/// The packages have the same functions, each of its own types.
 macro_rules! mujou {
-    ($which:ident, $package:ident, $contour:expr) => {
+    ($which:ident, $package:ident, $contour:expr, $dimensions:expr) => {
         impl $which {
             fn strategy(strategy: StartPointStrategy) -> $package::types::StartPointStrategy {
                 match strategy {
-                    StartPointStrategy::Outside => $package::types::StartPointStrategy::Outside,
-                    StartPointStrategy::Inside => $package::types::StartPointStrategy::Inside,
+                    Outside => $package::types::StartPointStrategy::Outside,
+                    Inside | Home(_) => $package::types::StartPointStrategy::Inside,
                 }
             }
 
-            fn dimensions(size: Size) -> $package::types::Dimensions {
-                $package::types::Dimensions { width: size.width, height: size.height }
+            fn dimensions(strategy: StartPointStrategy, size: Size) -> $package::types::Dimensions {
+                $dimensions(strategy, size)
             }
         }
 
@@ -76,7 +97,8 @@ macro_rules! mujou {
                 strategy: StartPointStrategy,
                 size: Size,
             ) -> (usize, bool) {
-                let (strategy, size) = (Self::strategy(strategy), Self::dimensions(size));
+                let size = Self::dimensions(strategy, size);
+                let strategy = Self::strategy(strategy);
                 $package::join::door::choose_start_contour(candidates, strategy, size)
             }
 
@@ -85,7 +107,8 @@ macro_rules! mujou {
                 strategy: StartPointStrategy,
                 size: Size,
             ) -> Vec<Self::Contour> {
-                let (strategy, size) = (Self::strategy(strategy), Self::dimensions(size));
+                let size = Self::dimensions(strategy, size);
+                let strategy = Self::strategy(strategy);
                 $package::optimize::optimize_path_order(contours, strategy, size)
             }
 
@@ -94,7 +117,8 @@ macro_rules! mujou {
                 strategy: StartPointStrategy,
                 size: Size,
             ) -> Self::Contour {
-                let (strategy, size) = (Self::strategy(strategy), Self::dimensions(size));
+                let size = Self::dimensions(strategy, size);
+                let strategy = Self::strategy(strategy);
                 $package::join::door::join_straight_line(contours, strategy, size)
             }
 
@@ -104,7 +128,8 @@ macro_rules! mujou {
                 size: Size,
                 cap: Option<usize>,
             ) -> Self::Contour {
-                let (strategy, size) = (Self::strategy(strategy), Self::dimensions(size));
+                let size = Self::dimensions(strategy, size);
+                let strategy = Self::strategy(strategy);
                 match cap {
                     None => $package::join::door::join_retrace(contours, strategy, size),
                     Some(cap) => {
@@ -116,5 +141,26 @@ macro_rules! mujou {
     };
 }
 
-mujou!(Plain, mujou_reference, |contour, _layer| contour);
-mujou!(Layered, mujou_reference_layers, |contour: Self::Contour, layer| contour.in_layer(layer));
+mujou!(Plain, mujou_reference, |contour, _layer| contour, |strategy, size| {
+    let [width, height] = sides(strategy, size);
+    mujou_reference::types::Dimensions { width, height }
+});
+mujou!(
+    Layered,
+    mujou_reference_layers,
+    |contour: Self::Contour, layer| contour.in_layer(layer),
+    |strategy, size| {
+        let [width, height] = sides(strategy, size);
+        mujou_reference_layers::types::Dimensions { width, height }
+    }
+);
+mujou!(
+    Parked,
+    mujou_reference_home,
+    |contour: Self::Contour, layer| contour.in_layer(layer),
+    |strategy, size| {
+        let Point { x, y } = parked(strategy, size);
+        let center = mujou_reference_home::types::Point::new(x, y);
+        mujou_reference_home::types::Dimensions { center }
+    }
+);

@@ -541,7 +541,8 @@ pub fn damaged_somehow(plate: &Plate, random: &mut Random) -> Plate {
     copy
 }
 
-fn off_the_plate(random: &mut Random) -> f64 {
+/// A coordinate off the plate.
+pub fn off_the_plate(random: &mut Random) -> f64 {
     const INFINITY: u64 = 0x7ff0_0000_0000_0000;
     let magnitude = match random.below(8) {
         0 => INFINITY,
@@ -562,6 +563,7 @@ fn off_the_plate(random: &mut Random) -> f64 {
 mod tests {
     use harness::random::Random;
     use twillharbor::Size;
+    use twillharbor::StartPointStrategy::Inside;
 
     use super::{
         DAMAGES, KINDS, MOST_CONTOURS, MOST_POINTS, Plate, damaged, lengths, plate, small_plate,
@@ -575,12 +577,12 @@ mod tests {
             let (mut points, mut blank) = (0, 0);
             for _ in 0..500 {
                 let plate = plate(kind, &mut random);
-                assert_eq!(checked(&plate), Ok(()), "{name}");
+                assert_eq!(checked(&plate, Inside), Ok(()), "{name}");
                 points += plate.points.len() / 2;
                 blank += usize::from(plate.points.is_empty());
                 let plate = small_plate(kind, &mut random);
                 assert!(plate.lengths.len() <= 12 && plate.points.len() <= 40);
-                assert_eq!(checked(&plate), Ok(()), "{name}");
+                assert_eq!(checked(&plate, Inside), Ok(()), "{name}");
             }
             assert!(points > 1_000 && blank < 250, "{name}: {points} points, {blank} blank");
         }
@@ -613,7 +615,7 @@ mod tests {
             tried += 1;
             for damage in DAMAGES {
                 let copy = damaged(&plate, damage, &mut random);
-                let refused = checked(&copy);
+                let refused = checked(&copy, Inside);
                 assert_eq!(refused.map_err(|(number, _)| number), Err(damage.number()));
             }
         }

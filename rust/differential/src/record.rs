@@ -10,9 +10,10 @@
 //!
 //! A row of the start, order and straight calls is, in this order:
 //!
-//! - nine words: the number of coordinates, the number of contours, the number of layers, width,
-//!   height, 1 for Inside and 0 for Outside, and the lengths of the order slice, of the path
-//!   slice and of the work slice, the same for order and straight;
+//! - eleven words: the number of coordinates, the number of contours, the number of layers, width,
+//!   height, the strategy (0 for Outside, 1 for Inside and 2 for Home), the lengths of the order
+//!   slice, of the path slice and of the work slice, the same for order and straight, and the
+//!   parked point's x and y, which are 0 but for Home;
 //! - the coordinates; the contours' lengths; the layers;
 //! - the start call's number, place, contour and reversed;
 //! - the order call's number, place and entries, then the whole order slice as the call
@@ -25,20 +26,22 @@
 //!
 //! The rows of the retrace call are described in `retrace`, those of the check of a path in `paths`.
 
+mod home;
 mod in_layers;
 pub mod paths;
 pub mod retrace;
 mod touching;
 
 use harness::random::Random;
-use twillharbor::Size;
-use twillharbor::StartPointStrategy::{self, Inside, Outside};
+use twillharbor::StartPointStrategy::{self, Home, Inside, Outside};
+use twillharbor::{Point, Size};
 
 use crate::distances::{Answer, expected};
 use crate::floats::power;
 use crate::layers;
 use crate::lent::Number;
 use crate::pairs::{self, Pair, pair};
+use crate::parked;
 use crate::plates::{self, Damage, Plate, small_plate};
 use crate::reference::results;
 use crate::rule;
@@ -118,7 +121,8 @@ struct Row {
 
 /// The rows of the start, order and straight calls: document 01's plates A to G and others
 /// that separate one rule from another, plates that document 02's layers decide, then the same
-/// number of each kind of plate, in layers, and of damage.
+/// number of each kind of plate, in layers, and of damage. Then come the rows of Home: plates that
+/// the parked point decides, and one of each kind.
 pub fn plates() -> String {
     let rows = rows();
     let mut words = Words::default();
@@ -152,6 +156,25 @@ fn rows() -> Vec<Row> {
             rows.push(row(copy, [Outside, Inside][turn % 2], turn, random));
         }
     }
+    rows.extend(home_rows());
+    rows
+}
+
+/// Rows with parked points.
+fn home_rows() -> Vec<Row> {
+    let (random, of_layers) = (&mut Random::new(15), &mut Random::new(16));
+    let mut rows = Vec::new();
+    for (plate, point) in home::sound() {
+        rows.push(row(plate, Home(point), 0, random));
+    }
+    for (turn, (plate, point)) in home::refused().into_iter().enumerate() {
+        rows.push(row(plate, Home(point), turn, random));
+    }
+    for (turn, (kind, _)) in plates::KINDS.into_iter().enumerate() {
+        let plate = layers::in_layers(small_plate(kind, random), of_layers);
+        let point = parked::on_the_plate(&plate, random);
+        rows.push(row(plate, Home(point), turn, random));
+    }
     rows
 }
 
@@ -171,7 +194,7 @@ fn damaged_copy(damage: Damage, random: &mut Random) -> Plate {
     loop {
         let (kind, _) = random.pick(&plates::KINDS);
         let copy = plates::damaged(&small_plate(kind, random), damage, random);
-        if fits(&copy) && rule::checked(&copy).is_err() {
+        if fits(&copy) && rule::checked(&copy, Inside).is_err() {
             return copy;
         }
     }
@@ -287,14 +310,19 @@ fn write_row(words: &mut Words, row: &Row) {
     write_outcome(words, outcome, *path, PATH_FILL);
 }
 
-/// The words of a row before its answers: the plate and the lengths of the slices.
+/// The words of a row before its answers: the plate, the strategy and the lengths of the slices.
 fn write_plate(words: &mut Words, plate: &Plate, strategy: StartPointStrategy, slices: &[usize]) {
     assert!(fits(plate));
     let Plate { points, lengths, layers, size } = plate;
     let counts = [points.len(), lengths.len(), layers.len()].map(|count| count as u64);
-    let numbers = [size.width.into(), size.height.into(), u64::from(strategy == Inside)];
+    let (strategy, parked) = match strategy {
+        Outside => (0, [0; 2]),
+        Inside => (1, [0; 2]),
+        Home(Point { x, y }) => (2, [x, y].map(f64::to_bits)),
+    };
+    let numbers = [size.width.into(), size.height.into(), strategy];
     let slices = slices.iter().map(|&length| length as u64);
-    words.line(counts.into_iter().chain(numbers).chain(slices));
+    words.line(counts.into_iter().chain(numbers).chain(slices).chain(parked));
     words.line(points.iter().map(|c| c.bits()));
     words.line(lengths.iter().map(|n| n.bits()));
     words.line(layers.iter().map(|n| n.bits()));
@@ -322,8 +350,8 @@ mod tests {
         distances, plates,
     };
 
-    /// A program that replays a file reads fewer bytes than this.
-    pub const MOST_BYTES: usize = 262_144;
+    /// A program that replays plates reads fewer bytes than this.
+    pub const MOST_BYTES: usize = 393_216;
 
     /// The words of a file, each with exactly one separator after it.
     pub fn words(text: &str) -> Vec<u64> {
@@ -371,16 +399,16 @@ mod tests {
         let mut words = words(&text).into_iter();
         let mut next = || words.next().expect("the row has another word");
         let rows = next();
-        let mut numbers = [[0; 14]; 3];
+        let (mut numbers, mut of_home) = ([[0; 14]; 3], [0; 14]);
         for _ in 0..rows {
             let [coordinates, contours, layers] = [(); 3].map(|()| next() as usize);
             let [width, height] = [(); 2].map(|()| u32::try_from(next()).unwrap());
-            let inside = match next() {
-                0 => false,
-                1 => true,
-                other => panic!("strategy {other}"),
-            };
+            let strategy = next();
+            assert!(strategy <= 2, "strategy {strategy}");
+            let (home, inside) = (strategy == 2, strategy == 1);
             let [order, path, work] = [(); 3].map(|()| next() as usize);
+            let [x, y] = [(); 2].map(|()| f64::from_bits(next()));
+            assert!(home || [x, y].map(f64::to_bits) == [0, 0]);
             assert!(coordinates <= MOST_COORDINATES && contours <= MOST_LENGTHS);
             assert!(layers <= MOST_LAYERS);
             assert!(order.max(path).max(work) <= MOST_ELEMENTS);
@@ -388,23 +416,35 @@ mod tests {
             let [lengths, layers]: [Vec<u32>; 2] = [contours, layers]
                 .map(|count| (0..count).map(|_| u32::try_from(next()).unwrap()).collect());
 
-            let r = c::start(&points, &lengths, &layers, width, height, inside);
+            let r = if home {
+                c::start_home(&points, &lengths, &layers, x, y)
+            } else {
+                c::start(&points, &lengths, &layers, width, height, inside)
+            };
             let answer = [r.number, r.place, r.contour, r.reversed].map(u64::from);
             assert_eq!(answer, [(); 4].map(|()| next()));
             numbers[0][r.number as usize] += 1;
+            of_home[r.number as usize] += u32::from(home);
 
             let mut slice = vec![ORDER_FILL; order];
             let mut lent = vec![7; work];
             let (slice_lent, work) = (&mut slice, &mut lent);
-            let r = c::order(&points, &lengths, &layers, width, height, inside, slice_lent, work);
+            let r = if home {
+                c::order_home(&points, &lengths, &layers, x, y, slice_lent, work)
+            } else {
+                c::order(&points, &lengths, &layers, width, height, inside, slice_lent, work)
+            };
             assert_eq!([r.number, r.place, r.entries].map(u64::from), [(); 3].map(|()| next()));
             slice.iter().for_each(|&n| assert_eq!(u64::from(n), next()));
             numbers[1][r.number as usize] += 1;
 
             let mut slice = vec![PATH_FILL; path];
             let (slice_lent, work) = (&mut slice, &mut lent);
-            let r =
-                c::straight(&points, &lengths, &layers, width, height, inside, slice_lent, work);
+            let r = if home {
+                c::straight_home(&points, &lengths, &layers, x, y, slice_lent, work)
+            } else {
+                c::straight(&points, &lengths, &layers, width, height, inside, slice_lent, work)
+            };
             assert_eq!([r.number, r.place, r.points].map(u64::from), [(); 3].map(|()| next()));
             slice.iter().for_each(|&x| assert_eq!(x.to_bits(), next()));
             numbers[2][r.number as usize] += 1;
@@ -417,5 +457,8 @@ mod tests {
         {
             assert!(due.iter().all(|&number| numbers[call][number] >= 4), "{numbers:?}");
         }
+        // With Home there are results, and the start call's refusals beside 1.
+        assert!(of_home[0] >= 40 && of_home[4] >= 12, "{of_home:?}");
+        assert!([2, 3, 13, 7].iter().all(|&number| of_home[number] > 0), "{of_home:?}");
     }
 }

@@ -1,11 +1,12 @@
 //! The reference's answers to the start, order, straight and retrace calls.
 //!
-//! They are those of the copy with layers. Where all contours that hold a point are of one layer,
-//! mujou's own functions, which know no layers, must give the same.
+//! They are those of the copy with layers, and with Home those of the copy of that one whose centre
+//! is handed in. Where all contours that hold a point are of one layer, mujou's own functions, which
+//! know no layers and no parked point, must give the same with Outside and Inside.
 
-use twillharbor::StartPointStrategy;
+use twillharbor::StartPointStrategy::{self, Home, Inside, Outside};
 
-use crate::mujou::{Layered, Mujou, Plain};
+use crate::mujou::{Layered, Mujou, Parked, Plain};
 use crate::plates::Plate;
 use crate::rule::{self, Held, Refused, Retrace};
 
@@ -22,22 +23,19 @@ pub struct Results {
 }
 
 /// The reference's results, or the refusal of a plate that is refused for its points, lengths or
-/// layers. It is an error where the reference and the documents as transcribed in `rule` differ.
+/// layers, or for the parked point. It is an error where the reference and the documents as
+/// transcribed in `rule` differ.
 pub fn results(
     plate: &Plate,
     strategy: StartPointStrategy,
 ) -> Result<Result<Results, Refused>, String> {
-    if let Err(refused) = rule::checked(plate) {
+    if let Err(refused) = rule::checked(plate, strategy) {
         return Ok(Err(refused));
     }
-    let (start, order, straight) = joined::<Layered>(plate, strategy)?;
-    if plate.one_layer().is_some() {
-        let (their_start, their_order, their_straight) = joined::<Plain>(plate, strategy)?;
-        if (start, &order) != (their_start, &their_order) || !same_bits(&straight, &their_straight)
-        {
-            return Err("with one layer the reference's copy differs from it".to_string());
-        }
-    }
+    let (start, order, straight) = match strategy {
+        Home(_) => joined::<Parked>(plate, strategy)?,
+        Outside | Inside => joined_in_layers(plate, strategy)?,
+    };
     let rule_start = rule::start(plate, strategy);
     let (rule_order, held) = rule::order(plate, strategy);
     if (rule_start, &rule_order) != (start, &order) {
@@ -53,6 +51,19 @@ pub fn results(
 }
 
 type Joined = (Option<[u32; 2]>, Vec<[u32; 2]>, Vec<[f64; 2]>);
+
+/// What the copy with layers gives, and with one layer the reference too.
+fn joined_in_layers(plate: &Plate, strategy: StartPointStrategy) -> Result<Joined, String> {
+    let (start, order, straight) = joined::<Layered>(plate, strategy)?;
+    if plate.one_layer().is_some() {
+        let (their_start, their_order, their_straight) = joined::<Plain>(plate, strategy)?;
+        if (start, &order) != (their_start, &their_order) || !same_bits(&straight, &their_straight)
+        {
+            return Err("with one layer the reference's copy differs from it".to_string());
+        }
+    }
+    Ok((start, order, straight))
+}
 
 /// Start, order and straight path. It is an error where contours that carry their number are
 /// ordered in another way than the contours themselves.
@@ -75,8 +86,8 @@ fn joined<M: Mujou>(plate: &Plate, strategy: StartPointStrategy) -> Result<Joine
 }
 
 /// The reference's path with the documents' marks, or the refusal of a plate that is refused for
-/// its points, lengths or layers. A path that has more points than the cap says can be
-/// exponentially long: then the copy of the reference that stops gives its beginning.
+/// its points, lengths or layers, or for the parked point. A path that has more points than the cap
+/// says can be exponentially long: then the copy of the reference that stops gives its beginning.
 ///
 /// The reference has no marks. They are those of the documents as transcribed in `rule`, and it
 /// is an error where its path differs from the reference's.
@@ -85,18 +96,16 @@ pub fn retrace(
     strategy: StartPointStrategy,
     cap: usize,
 ) -> Result<Result<Retrace, Refused>, String> {
-    if let Err(refused) = rule::checked(plate) {
+    if let Err(refused) = rule::checked(plate, strategy) {
         return Ok(Err(refused));
     }
     let (mut steps, held) = rule::retrace::retrace(plate, strategy, cap);
     let whole = steps.len() <= cap;
     steps.truncate(cap);
-    let path = retraced::<Layered>(plate, strategy, cap, whole)?;
-    if plate.one_layer().is_some()
-        && !same_bits(&path, &retraced::<Plain>(plate, strategy, cap, whole)?)
-    {
-        return Err("with one layer the reference's copy differs from it".to_string());
-    }
+    let path = match strategy {
+        Home(_) => retraced::<Parked>(plate, strategy, cap, whole)?,
+        Outside | Inside => retraced_in_layers(plate, strategy, cap, whole)?,
+    };
 
     let (vertices, _) = plate.points.as_chunks();
     let ours: Vec<[f64; 2]> = steps.iter().map(|step| vertices[step.vertex]).collect();
@@ -111,6 +120,22 @@ pub fn retrace(
         ));
     }
     Ok(Ok(Retrace { path, marks: steps.iter().map(|step| step.mark).collect(), whole, held }))
+}
+
+/// What the copy with layers gives, and with one layer the reference too.
+fn retraced_in_layers(
+    plate: &Plate,
+    strategy: StartPointStrategy,
+    cap: usize,
+    whole: bool,
+) -> Result<Vec<[f64; 2]>, String> {
+    let path = retraced::<Layered>(plate, strategy, cap, whole)?;
+    if plate.one_layer().is_some()
+        && !same_bits(&path, &retraced::<Plain>(plate, strategy, cap, whole)?)
+    {
+        return Err("with one layer the reference's copy differs from it".to_string());
+    }
+    Ok(path)
 }
 
 /// The whole path, or as many points of a longer one as the cap says.

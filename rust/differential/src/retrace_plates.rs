@@ -367,6 +367,7 @@ pub fn large_plate(large: Large, random: &mut Random) -> Plate {
 #[cfg(test)]
 mod tests {
     use harness::random::Random;
+    use twillharbor::StartPointStrategy::Inside;
 
     use super::{Frame, KINDS, Kind, plate};
     use crate::plates;
@@ -380,7 +381,7 @@ mod tests {
             let mut points = 0;
             for _ in 0..300 {
                 let plate = plate(kind, &mut random);
-                assert_eq!(checked(&plate), Ok(()), "{name}");
+                assert_eq!(checked(&plate, Inside), Ok(()), "{name}");
                 points += plate.points.len() / 2;
             }
             assert!(points > 1_000, "{name}: {points} points");

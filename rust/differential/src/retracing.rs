@@ -1,4 +1,5 @@
-//! The retrace call against the reference's `join_retrace`, with layers.
+//! The retrace call against the reference's `join_retrace`, with layers; Home against the reference's
+//! Inside with the parked point for its centre.
 //!
 //! Every call is lent slices between margins of random bits, and all bits are compared
 //! afterwards: of the answer, of inputs and outputs, and of both work slices after every
@@ -9,23 +10,26 @@
 use std::sync::atomic::{AtomicU64, Ordering};
 
 use harness::random::Random;
-use twillharbor::StartPointStrategy::{self, Inside, Outside};
-use twillharbor::{MarkedPath, PairKind, c};
+use twillharbor::StartPointStrategy::{self, Home, Inside, Outside};
+use twillharbor::{MarkedPath, PairKind, Point, Size, c};
 
 use crate::checker::{self, Claim, Counts};
 use crate::handed::{Handed, numbers};
 use crate::layers::{Met, in_seeded_layers};
 use crate::lent::Lent;
+use crate::meeting::Meeting;
 use crate::near::HowNear;
+use crate::parked;
 use crate::plates::{Plate, damaged_somehow};
 use crate::reference::retrace;
-use crate::retrace_plates::{KINDS, Kind, LARGE, large_plate, plate};
+use crate::retrace_plates::{KINDS, Kind, LARGE, Large, large_plate, plate};
 use crate::rule::{self, NUMBERS, Retrace};
 use crate::run::{self, Plan};
 use crate::touches::Seen;
 
-/// How many damaged copies of each plate are handed over.
+/// How many damaged copies of each plate are handed over, and how many with Home.
 const COPIES: usize = 4;
+const HOME_COPIES: usize = 2;
 /// Plates to a stream of random numbers.
 const CHUNK: u64 = 256;
 /// C is at most this.
@@ -38,6 +42,7 @@ struct Tally {
     /// Path points, cuts, back-steps, jumps and touches.
     counts: [AtomicU64; 5],
     met: Met,
+    parked: parked::Met,
     seen: Seen,
     near: HowNear,
 }
@@ -89,11 +94,23 @@ pub fn run(plan: Plan) -> bool {
     let plan = Plan { pairs: LARGE.len() as u64, ..plan };
     println!("large plates: {}, seed {}", plan.pairs, plan.seed);
     let same = run::run_in_chunks(plan, 1, &LARGE, |large, random| {
-        sound(&large_plate(large, random), Inside, MOST, &tally, 2, random)
+        let plate = large_plate(large, random);
+        sound(&handed(&plate, Inside, MOST, &tally, random)?, 2, random)?;
+        if matches!(large, Large::Meeting(Meeting::Chain, _)) {
+            // From some ends its path passes 1,048,576 points, whose landings take long to check.
+            return Ok(());
+        }
+        let home = Home(parked::on_the_plate(&plate, random));
+        sound(&handed(&plate, home, MOST, &tally, random)?, 2, random)
     });
     tally.print();
-    let met = [tally.met.print(of_kinds), tally.seen.print(of_kinds), tally.near.print(of_kinds)];
-    met == [true; 3] && same
+    let met = [
+        tally.met.print(of_kinds),
+        tally.parked.print(of_kinds),
+        tally.seen.print(of_kinds),
+        tally.near.print(of_kinds),
+    ];
+    met == [true; 4] && same
 }
 
 /// Compares one plate of a run: the kind by its number, and the plate's own seed.
@@ -110,22 +127,57 @@ pub fn run_one(kind: u64, seed: u64) -> Result<bool, String> {
 fn compare(kind: Kind, seed: u64, tally: &Tally) -> Result<(), String> {
     let random = &mut Random::new(seed);
     let plate = in_seeded_layers(plate(kind, random), seed);
+    let of_home = &mut parked::seeded(seed);
     let large = plate.points.len() > 1_000 || plate.lengths.len() > 50;
     let cap = cap(&plate, random);
     if large {
-        sound(&plate, random.pick(&[Outside, Inside]), cap, tally, 2, random)?;
+        let strategy = random.pick(&[Outside, Inside]);
+        sound(&handed(&plate, strategy, cap, tally, random)?, 2, random)?;
     } else {
-        for strategy in [Outside, Inside] {
-            sound(&plate, strategy, cap, tally, 6, random)?;
-        }
+        sound(&handed(&plate, Outside, cap, tally, random)?, 6, random)?;
+        let inside = handed(&plate, Inside, cap, tally, random)?;
+        sound(&inside, 6, random)?;
+        at_the_centre(&inside, of_home)?;
     }
     for _ in 0..COPIES {
         let copy = damaged_somehow(&plate, random);
-        if !large || rule::checked(&copy).is_err() {
-            refused(&copy, tally, random)?;
+        if !large || rule::checked(&copy, Inside).is_err() {
+            refused(&copy, random.pick(&[Outside, Inside]), tally, random)?;
+        }
+    }
+    home(&plate, large, tally, of_home)
+}
+
+/// The plate with a parked point, with one off the plate, and damaged copies with either.
+fn home(plate: &Plate, large: bool, tally: &Tally, random: &mut Random) -> Result<(), String> {
+    let on = parked::on_the_plate(plate, random);
+    let off = parked::off_the_plate(on, random);
+    let case = handed(plate, Home(on), cap(plate, random), tally, random)?;
+    sound(&case, if large { 2 } else { 6 }, random)?;
+    refused(plate, Home(off), tally, random)?;
+    for _ in 0..HOME_COPIES {
+        let copy = damaged_somehow(plate, random);
+        let home = Home(random.pick(&[on, off]));
+        if !large || rule::checked(&copy, home).is_err() {
+            refused(&copy, home, tally, random)?;
         }
     }
     Ok(())
+}
+
+/// With the centre for its parked point the plate of a case of Inside gives what that one gives.
+fn at_the_centre(inside: &Case, random: &mut Random) -> Result<(), String> {
+    let plate = inside.plate;
+    let strategy = Home(rule::centre(plate.size));
+    // A centre may be off the plate.
+    let due = rule::checked(plate, strategy).and_then(|()| inside.due.clone());
+    inside.tally.parked.as_inside(&due);
+    let points = due.as_ref().map_or(0, |due| due.marks.len());
+    let case = Case::new(plate, strategy, inside.tally, Ok(due), random)?;
+    for room in [points, random.below(points as u64 + 1) as usize] {
+        case.retrace(case.enough(2 * room, 2 * room), random)?;
+    }
+    case.wrapper()
 }
 
 /// How many points of a path are compared. A few paths are exponentially long.
@@ -179,15 +231,7 @@ impl LentSlices {
 
 /// A plate as it is: results, and refusals 5 and 6. At most `most` calls are made beside those
 /// with just enough room.
-fn sound(
-    plate: &Plate,
-    strategy: StartPointStrategy,
-    cap: usize,
-    tally: &Tally,
-    most: usize,
-    random: &mut Random,
-) -> Result<(), String> {
-    let case = handed(plate, strategy, cap, tally, random)?;
+fn sound(case: &Case, most: usize, random: &mut Random) -> Result<(), String> {
     let Ok(Retrace { marks, whole, .. }) = &case.due else {
         return Err(case.described("a sound plate is refused"));
     };
@@ -255,9 +299,14 @@ fn rooms(count: usize, random: &mut Random) -> Vec<[usize; 2]> {
     ]
 }
 
-/// A damaged copy, and any slices.
-fn refused(copy: &Plate, tally: &Tally, random: &mut Random) -> Result<(), String> {
-    let case = handed(copy, random.pick(&[Outside, Inside]), 1_000, tally, random)?;
+/// A plate that is refused, for one reason or for several, and any slices.
+fn refused(
+    plate: &Plate,
+    strategy: StartPointStrategy,
+    tally: &Tally,
+    random: &mut Random,
+) -> Result<(), String> {
+    let case = handed(plate, strategy, 1_000, tally, random)?;
     for _ in 0..2 {
         let [path, marks] = [(); 2].map(|()| random.below(40) as usize);
         let slices = if case.due.is_err() && random.one_in(2) {
@@ -283,8 +332,9 @@ fn handed<'a>(
 ) -> Result<Case<'a>, String> {
     let due = retrace(plate, strategy, cap);
     if let Ok(due) = &due {
-        let held = due.as_ref().map(|retrace| retrace.held);
-        tally.met.plate(plate, strategy, held.map_err(|&refused| refused));
+        let held = due.as_ref().map(|retrace| retrace.held).map_err(|&refused| refused);
+        tally.met.plate(plate, strategy, held);
+        tally.parked.plate(plate, strategy, held.map(|_| ()));
     }
     if let Ok(Ok(due)) = &due {
         tally.seen.path(plate, due);
@@ -327,6 +377,7 @@ impl Case<'_> {
             (6, Ok(due)) => self.tally.seen.full(due, written),
             _ => {}
         }
+        self.tally.parked.lent(self.plate, self.strategy, due[0], distances, slices.room());
         let name =
             format!("call, lent slices of {path} and {marks}, and work of {work} and {distances}");
         let mut lent = LentSlices::random(slices, random);
@@ -355,18 +406,23 @@ impl Case<'_> {
 
     /// The library's answer.
     fn called(&self, lent: &mut LentSlices) -> [u32; 7] {
-        let result = c::retrace(
-            self.points.slice(),
-            self.lengths.slice(),
-            self.layers.slice(),
-            self.plate.size.width,
-            self.plate.size.height,
-            self.strategy == Inside,
-            lent.path.slice_mut(),
-            lent.marks.slice_mut(),
-            lent.work.slice_mut(),
-            lent.distances.slice_mut(),
-        );
+        let (points, lengths, layers) = self.inputs();
+        let Size { width, height } = self.plate.size;
+        let path = lent.path.slice_mut();
+        let marks = lent.marks.slice_mut();
+        let work = lent.work.slice_mut();
+        let distances = lent.distances.slice_mut();
+        let result = match self.strategy {
+            Home(Point { x, y }) => {
+                c::retrace_home(points, lengths, layers, x, y, path, marks, work, distances)
+            }
+            base => {
+                let inside = base == Inside;
+                c::retrace(
+                    points, lengths, layers, width, height, inside, path, marks, work, distances,
+                )
+            }
+        };
         let c::RetraceResult { number, place, points, cuts, back_steps, jumps, touches } = result;
         [number, place, points, cuts, back_steps, jumps, touches]
     }

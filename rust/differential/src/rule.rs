@@ -1,10 +1,11 @@
-//! Document 01's refusals, start and order once more, with document 02's layers, written from
-//! their text and apart from the reference. The refusals are not the reference's: it refuses
-//! nothing.
+//! Document 01's refusals, start and order once more, with document 02's layers and its parked
+//! point, written from their text and apart from the reference. The refusals are not the
+//! reference's: it refuses nothing.
 
 pub mod retrace;
 
-use twillharbor::StartPointStrategy;
+use twillharbor::StartPointStrategy::{self, Home, Inside, Outside};
+use twillharbor::{Point, Size};
 
 use crate::plates::Plate;
 
@@ -23,11 +24,19 @@ pub fn place_of(number: u32) -> usize {
     NUMBERS.iter().position(|&known| known == number).expect("a call gives it")
 }
 
-/// Refusals 1 to 3, then 13, then 4.
-pub fn checked(plate: &Plate) -> Result<(), Refused> {
+/// Refusals 1 to 3, then 13, then 4: of the parked point, and then of the coordinates.
+pub fn checked(plate: &Plate, strategy: StartPointStrategy) -> Result<(), Refused> {
     counted(&plate.points, &plate.lengths)?;
     layered(plate.lengths.len(), &plate.layers)?;
+    if let Home(point) = strategy {
+        parked(point)?;
+    }
     on_plate(&plate.points)
+}
+
+/// Refusal 4 of a parked point: its place is 0 or 1, within that point.
+pub fn parked(Point { x, y }: Point) -> Result<(), Refused> {
+    on_plate(&[x, y])
 }
 
 /// Refusals 1 to 3.
@@ -199,14 +208,22 @@ fn squared([ax, ay]: [f64; 2], [bx, by]: [f64; 2]) -> u64 {
     squared.to_bits()
 }
 
+/// Half of width and height.
+pub fn centre(size: Size) -> Point {
+    Point { x: f64::from(size.width) / 2.0, y: f64::from(size.height) / 2.0 }
+}
+
 /// Of each end: its contour's layer, what it is chosen by, the contour's number and 1 if it is
 /// the last point, else 0. The least is the start.
 fn ends(plate: &Plate, strategy: StartPointStrategy) -> Vec<(u32, u64, [u32; 2])> {
-    let centre = [plate.size.width, plate.size.height].map(|side| f64::from(side) / 2.0);
+    let Point { x, y } = match strategy {
+        Home(point) => point,
+        Outside | Inside => centre(plate.size),
+    };
     let distance = |end| match strategy {
-        StartPointStrategy::Inside => squared(centre, end),
+        Inside | Home(_) => squared([x, y], end),
         // Of the complements the least is that of the greatest.
-        StartPointStrategy::Outside => !squared(centre, end),
+        Outside => !squared([x, y], end),
     };
     let ends = contours(plate).into_iter().flat_map(|contour| {
         let Contour { number, layer, first, last } = contour;
@@ -219,6 +236,22 @@ fn ends(plate: &Plate, strategy: StartPointStrategy) -> Vec<(u32, u64, [u32; 2])
 pub fn start(plate: &Plate, strategy: StartPointStrategy) -> Option<[u32; 2]> {
     // What is as far away as an earlier end does not win: the earlier end is the lesser.
     ends(plate, strategy).into_iter().min().map(|(_, _, end)| end)
+}
+
+/// The first and the last point of each contour that is not skipped.
+pub fn end_points(plate: &Plate) -> Vec<[f64; 2]> {
+    contours(plate).into_iter().flat_map(|contour| [contour.first, contour.last]).collect()
+}
+
+/// All ends as good as the start, which is the first of them, with their points.
+pub fn leaders(plate: &Plate, strategy: StartPointStrategy) -> Vec<([u32; 2], [f64; 2])> {
+    let ends = ends(plate, strategy);
+    let least = ends.iter().map(|&(layer, distance, _)| (layer, distance)).min();
+    let leaders = ends
+        .into_iter()
+        .zip(end_points(plate))
+        .filter(|&((layer, distance, _), _)| Some((layer, distance)) == least);
+    leaders.map(|((_, _, end), point)| (end, point)).collect()
 }
 
 /// What the layers did to the choice of the start.
@@ -281,11 +314,11 @@ pub fn straight(points: &[f64], lengths: &[u32], order: &[[u32; 2]]) -> Vec<[f64
 #[cfg(test)]
 mod tests {
     use super::{
-        Held, Plate, Refused, Retrace, checked, held_at_start, order, order_room, outcome, retrace,
-        retrace_outcome, retrace_room, straight_room,
+        Held, Plate, Refused, Retrace, checked, held_at_start, leaders, order, order_room, outcome,
+        retrace, retrace_outcome, retrace_room, start, straight_room,
     };
-    use twillharbor::Size;
-    use twillharbor::StartPointStrategy::{Inside, Outside};
+    use twillharbor::StartPointStrategy::{Home, Inside, Outside};
+    use twillharbor::{Point, Size};
 
     type Row<'a> = (&'a [f64], &'a [u32], Result<(), Refused>);
 
@@ -313,7 +346,7 @@ mod tests {
         ];
         for (place, (points, lengths, due)) in rows.into_iter().enumerate() {
             assert_eq!(
-                checked(&plate(points, lengths, &vec![0; lengths.len()])),
+                checked(&plate(points, lengths, &vec![0; lengths.len()]), Inside),
                 due,
                 "row {place}"
             );
@@ -350,8 +383,73 @@ mod tests {
             (&[nan], &many, &[], Err((1, 0))),
         ];
         for (place, (points, lengths, layers, due)) in rows.into_iter().enumerate() {
-            assert_eq!(checked(&plate(points, lengths, layers)), due, "row {place}");
+            assert_eq!(checked(&plate(points, lengths, layers), Outside), due, "row {place}");
         }
+    }
+
+    #[test]
+    fn the_parked_point_comes_after_13_and_before_the_coordinates() {
+        type Row<'a> = ([f64; 2], &'a [f64], &'a [u32], &'a [u32], Result<(), Refused>);
+        const LIMIT: f64 = 1_000_000.0;
+        let (many, nan, beyond) = (vec![0; 4_097], f64::NAN, LIMIT.next_up());
+        let rows: [Row; 20] = [
+            ([0.0, 0.0], &[], &[], &[], Ok(())),
+            ([LIMIT, -LIMIT], &[1.0, 1.0], &[1], &[0], Ok(())),
+            ([-LIMIT, LIMIT], &[1.0, 1.0], &[1], &[0], Ok(())),
+            ([-0.0, 5e-324], &[1.0, 1.0], &[1], &[0], Ok(())),
+            ([beyond, 0.0], &[1.0, 1.0], &[1], &[0], Err((4, 0))),
+            ([-beyond, 0.0], &[1.0, 1.0], &[1], &[0], Err((4, 0))),
+            ([0.0, beyond], &[1.0, 1.0], &[1], &[0], Err((4, 1))),
+            ([0.0, -beyond], &[1.0, 1.0], &[1], &[0], Err((4, 1))),
+            ([nan, 0.0], &[1.0, 1.0], &[1], &[0], Err((4, 0))),
+            ([0.0, -nan], &[1.0, 1.0], &[1], &[0], Err((4, 1))),
+            ([f64::INFINITY, nan], &[1.0, 1.0], &[1], &[0], Err((4, 0))),
+            ([0.0, f64::NEG_INFINITY], &[], &[], &[], Err((4, 1))),
+            ([0.0, nan], &[1.0, 1.0, nan, 1.0], &[2], &[0], Err((4, 1))),
+            ([nan, 0.0], &[1.0, 1.0, nan, 1.0], &[2], &[0], Err((4, 0))),
+            ([0.0, 0.0], &[1.0, 1.0, nan, 1.0], &[2], &[0], Err((4, 2))),
+            ([nan, 0.0], &[1.0, 1.0], &[1], &[16], Err((13, 0))),
+            ([nan, 0.0], &[1.0, 1.0], &[1], &[], Err((13, 1))),
+            ([nan, 0.0], &[1.0], &[1], &[0], Err((3, 0))),
+            ([nan, 0.0], &[], &[65_537], &[0], Err((2, 0))),
+            ([nan, 0.0], &[], &many, &many, Err((1, 0))),
+        ];
+        for (place, ([x, y], points, lengths, layers, due)) in rows.into_iter().enumerate() {
+            let home = Home(Point { x, y });
+            assert_eq!(checked(&plate(points, lengths, layers), home), due, "row {place}");
+        }
+        // The other strategies have none.
+        assert_eq!(checked(&plate(&[1.0, 1.0], &[1], &[0]), Inside), Ok(()));
+    }
+
+    #[test]
+    fn the_end_nearest_the_parked_point_leads() {
+        // (0,0)(4,0) | (4,1)(8,1), on a plate whose centre is (4,0.5).
+        let plate = Plate {
+            size: Size { width: 8, height: 1 },
+            ..plate(&[0.0, 0.0, 4.0, 0.0, 4.0, 1.0, 8.0, 1.0], &[2, 2], &[0, 0])
+        };
+        let home = |x, y| Home(Point { x, y });
+        let ends = [
+            ([0, 0], [0.0, 0.0]),
+            ([0, 1], [4.0, 0.0]),
+            ([1, 0], [4.0, 1.0]),
+            ([1, 1], [8.0, 1.0]),
+        ];
+        for (end, [x, y]) in ends {
+            assert_eq!(start(&plate, home(x, y)), Some(end));
+            assert_eq!(leaders(&plate, home(x, y)), [(end, [x, y])]);
+        }
+        assert_eq!(leaders(&plate, home(1e6, 1e6)), ends[3..]);
+        assert_eq!(leaders(&plate, home(-1e6, -1e6)), ends[..1]);
+        assert_eq!(leaders(&plate, home(4.0, 0.5)), ends[1..3]);
+        assert_eq!(leaders(&plate, Inside), ends[1..3]);
+        assert_eq!(leaders(&plate, Outside), [ends[0], ends[3]]);
+        assert_eq!(leaders(&plate, home(2.0, -7.0)), ends[..2]);
+        assert_eq!(start(&plate, home(2.0, -7.0)), Some([0, 0]));
+        let layered = Plate { layers: vec![1, 0], ..plate };
+        assert_eq!(leaders(&layered, home(0.0, 0.0)), ends[2..3]);
+        assert!(held_at_start(&layered, home(0.0, 0.0)).nearer);
     }
 
     #[test]

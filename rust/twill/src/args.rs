@@ -224,6 +224,10 @@ impl Options {
             "--outside" if has_terms => {
                 self.strategy.replace(StartPointStrategy::Outside).is_some()
             }
+            "--home" if has_terms => {
+                let home = point(option, value(option, attached, rest)?)?;
+                self.strategy.replace(StartPointStrategy::Home(home)).is_some()
+            }
             "--width" | "--height" if has_terms => {
                 let size = whole(option, value(option, attached, rest)?, u32::MAX)?;
                 let side = if option == "--width" { &mut self.width } else { &mut self.height };
@@ -266,6 +270,15 @@ fn value<'a>(
 fn whole(option: &str, word: &str, most: u32) -> Result<u32, String> {
     let number = number::whole(word).filter(|&number| number <= most);
     number.ok_or_else(|| format!("{option} takes a whole number from 0 to {most}, not `{word}`"))
+}
+
+/// Two numbers with a comma between them.
+fn point(option: &str, word: &str) -> Result<Point, String> {
+    let numbers = word.split_once(',').map(|(x, y)| [x, y].map(|n| number::parse(n.trim())));
+    match numbers {
+        Some([Some(x), Some(y)]) => Ok(Point { x, y }),
+        _ => Err(format!("{option} takes two numbers, X,Y, not `{word}`")),
+    }
 }
 
 fn format(word: &str) -> Result<Format, String> {
@@ -311,6 +324,25 @@ mod tests {
         assert_eq!((request.command, request.source), (Command::Step, Source::StandardInput));
         let Ok(Request::Plate(request)) = parsed("view a --at 12") else { panic!("not read") };
         assert_eq!((request.command, request.at), (Command::View, Some(12)));
+    }
+
+    #[test]
+    fn a_parked_point_may_have_signs() {
+        for (line, x, y) in [
+            ("retrace a --home -5,3", -5.0, 3.0),
+            ("step --home=-5,3 a", -5.0, 3.0),
+            ("check --home 0x1.8p3,-0 -- a", 12.0, -0.0),
+            ("view a --home=.5,-1e-300", 0.5, -1e-300),
+            ("order a --width 3 --home 1,inf", 1.0, f64::INFINITY),
+        ] {
+            let Ok(Request::Plate(request)) = parsed(line) else { panic!("{line}") };
+            assert_eq!(request.source, Source::File("a".into()), "{line}");
+            let Some(StartPointStrategy::Home(home)) = request.strategy else { panic!("{line}") };
+            assert_eq!([home.x, home.y].map(f64::to_bits), [x, y].map(f64::to_bits), "{line}");
+        }
+        let words = ["start", "a", "--home", "-5, 3"].map(str::to_owned);
+        let Ok(Request::Plate(request)) = parse(&words) else { panic!("not read") };
+        assert_eq!(request.strategy, Some(StartPointStrategy::Home(Point { x: -5.0, y: 3.0 })));
     }
 
     #[test]
@@ -369,6 +401,19 @@ mod tests {
             ("start a --layer 1 --layer 1", "--layer is given twice, or against another option"),
             ("order a --inside --outside", "--outside is given twice, or against another option"),
             ("order a --inside=1", "--inside takes no value"),
+            ("order a --home 1,2 --inside", "--inside is given twice, or against another option"),
+            ("order a --outside --home 1,2", "--home is given twice, or against another option"),
+            ("step a --home 1,2 --home 1,2", "--home is given twice, or against another option"),
+            ("view a --home", "--home takes a value"),
+            ("view a --home=", "--home takes a value"),
+            ("view --home a", "--home takes two numbers, X,Y, not `a`"),
+            ("view a --home 1", "--home takes two numbers, X,Y, not `1`"),
+            ("view a --home 1,", "--home takes two numbers, X,Y, not `1,`"),
+            ("view a --home ,2", "--home takes two numbers, X,Y, not `,2`"),
+            ("view a --home 1,2,3", "--home takes two numbers, X,Y, not `1,2,3`"),
+            ("view a --home (1,2)", "--home takes two numbers, X,Y, not `(1,2)`"),
+            ("view a --home 1,--2", "--home takes two numbers, X,Y, not `1,--2`"),
+            ("verify a b --home 1,2", "verify has no option --home: see `twill help verify`"),
             ("order a --format xml", "--format is text, json, svg or plate-marks, not `xml`"),
             ("distance 1 2 3", "distance takes four numbers, ax ay bx by, not 3"),
             ("distance 1 2 3 x", "distance takes four numbers; `x` is none"),

@@ -90,6 +90,8 @@ pub struct Plate {
     pub height: Option<u32>,
     /// The strategy that the file gives, if it does.
     pub strategy: Option<StartPointStrategy>,
+    /// The byte of the text at which the parked point stands, if the file gives one.
+    pub home_byte: Option<usize>,
     /// What the user is to be told of the size, though the file was read.
     pub notes: Vec<Remark>,
     /// What the user is to be told of the layers.
@@ -182,6 +184,14 @@ impl Handed {
         layers
     }
 
+    /// The parked point, where the strategy has one.
+    pub const fn home(&self) -> Option<Point> {
+        match self.strategy {
+            StartPointStrategy::Home(home) => Some(home),
+            StartPointStrategy::Outside | StartPointStrategy::Inside => None,
+        }
+    }
+
     /// For each vertex of the plate the contour that it is of and its number within it.
     pub fn vertices(&self) -> impl Iterator<Item = (usize, usize)> {
         let lengths = self.lengths.iter().enumerate();
@@ -195,14 +205,17 @@ impl Handed {
         self.lengths.iter().map(move |&length| points.by_ref().take(length as usize).collect())
     }
 
-    /// `8 by 2, outside`, and for a plate in layers `8 by 2, outside, layers 0 and 3`.
+    /// `8 by 2, outside`, with a parked point `8 by 2, home (12,0.5)`, and for a plate in layers
+    /// `8 by 2, outside, layers 0 and 3`.
     pub fn terms(&self) -> String {
         let occurring = self.layer_counts();
         let layers = match self.is_layered() && !occurring.is_empty() {
             true => format!(", {}", words::layers(occurring.keys())),
             false => String::new(),
         };
-        format!("{} by {}, {}{layers}", self.size.width, self.size.height, word(self.strategy))
+        let home = self.home().map_or(String::new(), |home| format!(" {}", point(home)));
+        let Size { width, height } = self.size;
+        format!("{width} by {height}, {}{home}{layers}", word(self.strategy))
     }
 }
 
@@ -211,10 +224,11 @@ pub const fn word(strategy: StartPointStrategy) -> &'static str {
     match strategy {
         StartPointStrategy::Outside => "outside",
         StartPointStrategy::Inside => "inside",
+        StartPointStrategy::Home(_) => "home",
     }
 }
 
-/// The strategy of a word.
+/// The strategy of a word that stands alone, without a parked point.
 pub fn strategy(word: &str) -> Option<StartPointStrategy> {
     match word {
         "outside" => Some(StartPointStrategy::Outside),

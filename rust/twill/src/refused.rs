@@ -16,6 +16,8 @@ pub struct Loaded {
     pub layers: Vec<Layer>,
     /// The byte of the text at which the file lists them by themselves, if it does.
     pub layers_byte: Option<usize>,
+    /// The byte of the text at which the parked point stands, if it is the file's.
+    pub home_byte: Option<usize>,
     pub plate: Handed,
 }
 
@@ -33,6 +35,7 @@ pub fn refused(loaded: &Loaded, refusal: Refusal) -> String {
             return bad_layer(loaded, contour as usize, refusal);
         }
         Refusal::BadLayer(LayerFault::Length { .. }) => return layers_length(loaded, refusal),
+        Refusal::HomeOffThePlate { place } => return home_off_the_plate(loaded, place, refusal),
         Refusal::OffThePlate { place } => return off_the_plate(loaded, place as usize, refusal),
         Refusal::Full { place } => full(plate, place as usize),
         Refusal::Blank => match contours {
@@ -61,6 +64,21 @@ fn layers_length(loaded: &Loaded, refusal: Refusal) -> String {
     let position = Position::of(text, layers_byte.unwrap_or_default());
     let listed = count(layers.len(), "layer");
     format!("{name}:{position}: refused: {refusal}: the file lists {listed}")
+}
+
+/// The refusal names the coordinate itself.
+fn home_off_the_plate(loaded: &Loaded, place: u32, refusal: Refusal) -> String {
+    let Loaded { name, text, home_byte, plate, .. } = loaded;
+    let home = plate.home().expect("the library refuses a parked point that it was handed");
+    let position = match home_byte {
+        Some(byte) => format!(":{}", Position::of(text, *byte)),
+        None => String::new(),
+    };
+    let value = show(if place == 0 { home.x } else { home.y });
+    format!(
+        "{name}{position}: refused: {refusal} = {value}; \
+         a coordinate lies between -1,000,000 and 1,000,000"
+    )
 }
 
 fn off_the_plate(loaded: &Loaded, place: usize, refusal: Refusal) -> String {

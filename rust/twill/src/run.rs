@@ -12,7 +12,7 @@ use std::collections::BTreeSet;
 use std::io::Read;
 use std::path::{Path, PathBuf};
 use std::{fs, io};
-use twillharbor::{MarkedPath, Point, Refusal, Size};
+use twillharbor::{MarkedPath, Point, Refusal, Size, StartPointStrategy};
 
 pub fn run(request: &Request) -> Result<(), Failure> {
     match request {
@@ -98,10 +98,11 @@ fn load(request: &PlateRequest) -> Result<Loaded, Failure> {
         height: request.height.or(plate.height).unwrap_or(0),
     };
     let strategy = request.strategy.or(plate.strategy).unwrap_or_default();
+    let home_byte = plate.home_byte.filter(|_| request.strategy.is_none());
     let layers = plate.layers.iter().map(|layer| layer.number).collect();
     let Plate { points, lengths, bytes, layers_byte, .. } = plate;
     let handed = Handed { points, lengths, layers, size, strategy };
-    Ok(Loaded { name, text, bytes, layers: plate.layers, layers_byte, plate: handed })
+    Ok(Loaded { name, text, bytes, layers: plate.layers, layers_byte, home_byte, plate: handed })
 }
 
 /// A layer of which there is nothing would give an empty path, which is rather a slip. Layers that
@@ -229,11 +230,20 @@ fn verify(request: &PlateRequest, loaded: &Loaded) -> Result<(), Failure> {
     let is_accepted = shown.is_some() && at.is_none();
     output::print(&lines)?;
     if let (Some(to), Some(path)) = (&request.output, shown) {
-        let joined = Joined::new(loaded.plate.clone(), path);
+        let joined = Joined::new(unparked(&loaded.plate), path);
         let at = at.map(|_| joined.count() as u32);
         save_page(to, &joined, &page_name(&request.source), at)?;
     }
     if is_accepted { Ok(()) } else { Err(Failure { status: 1, line: None }) }
+}
+
+/// A plate without its parked point: the check of a path does not look at it, so it may be any.
+fn unparked(plate: &Handed) -> Handed {
+    let strategy = match plate.home() {
+        Some(_) => StartPointStrategy::default(),
+        None => plate.strategy,
+    };
+    Handed { strategy, ..plate.clone() }
 }
 
 /// Without `-o` the page is named after the plate, and takes the place of no file but such a

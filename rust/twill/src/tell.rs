@@ -14,12 +14,13 @@
 //! FROM and TO are points as `(x,y)`. A reversed cut goes from vertex J + 1 to vertex J. G is the
 //! cut, jump or touch that is gone back over, which is K if pair K is one; of a jump or touch the
 //! vertex that it lands on is named. The start, before all pairs, is
-//! `0 start AT on contour C vertex V`. Where the plate has layers, each line ends in `layer N`.
+//! `0 start AT on contour C vertex V`, and with a parked point then `home (x,y)`. Where the plate
+//! has layers, each line ends in `layer N`.
 
 use crate::joined::{Joined, Told};
 use crate::number;
 use crate::plate::point;
-use twillharbor::PairKind;
+use twillharbor::{PairKind, Point};
 
 /// The line of a pair.
 pub fn line(joined: &Joined, told: &Told) -> String {
@@ -45,8 +46,9 @@ fn layer(joined: &Joined, number: usize) -> String {
 /// The line of the start; none where the path has no point.
 pub fn start_line(joined: &Joined) -> Option<String> {
     let (at, vertex) = joined.path.start()?;
+    let home = joined.plate.home().map_or(String::new(), |home| format!(" home {}", point(home)));
     let (place, layer) = (place(joined.locate(vertex)), layer(joined, 0));
-    Some(format!("0 start {} on {place}{layer}", point(at)))
+    Some(format!("0 start {} on {place}{home}{layer}", point(at)))
 }
 
 /// Labelled values of a pair, but for its number and kind; what matters most stands first.
@@ -71,7 +73,20 @@ pub fn details(joined: &Joined, told: &Told) -> Vec<(&'static str, String)> {
         ("points", format!("path points {} and {}", told.number - 1, told.number)),
         ("vertices", format!("{left} to {reached} of the plate, {from} to {to}")),
     ]);
+    details.extend(joined.plate.home().map(|home| ("home", parked(home))));
     details
+}
+
+fn parked(home: Point) -> String {
+    format!("parked at {}", point(home))
+}
+
+/// The parked point as a labelled value, with how far from there the path starts.
+fn home_detail(joined: &Joined, start: Point) -> Option<(&'static str, String)> {
+    let home = joined.plate.home()?;
+    let distances = twillharbor::distance(home, start)
+        .expect("a parked point that is accepted is within the distance call's limit");
+    Some(("home", format!("{}, length {}", parked(home), number::show(distances.plain))))
 }
 
 /// The layer as a labelled value, where the plate has layers.
@@ -84,6 +99,7 @@ pub fn start_details(joined: &Joined) -> Vec<(&'static str, String)> {
     let Some((at, vertex)) = joined.path.start() else { return Vec::new() };
     let starts = format!("on {}", place(joined.locate(vertex)));
     let mut details = vec![("at", point(at)), ("starts", starts)];
+    details.extend(home_detail(joined, at));
     details.extend(layer_detail(joined, 0));
     details.extend([
         ("mark", mark(joined, 0)),
@@ -138,7 +154,7 @@ pub mod tests {
     use super::{details, line, start_details, start_line};
     use crate::joined::Joined;
     use crate::plate::Handed;
-    use twillharbor::{Size, StartPointStrategy};
+    use twillharbor::{Point, Size, StartPointStrategy};
 
     /// A plate's path, starting inside.
     pub fn joined(contours: &[&[(f64, f64)]], width: u32, height: u32) -> Joined {
@@ -147,10 +163,23 @@ pub mod tests {
 
     /// The same of a plate in layers.
     pub fn layered(contours: &[&[(f64, f64)]], layers: &[u32], width: u32, height: u32) -> Joined {
+        started(contours, layers, Size { width, height }, StartPointStrategy::Inside)
+    }
+
+    /// A plate's path that starts near a parked point.
+    pub fn parked(contours: &[&[(f64, f64)]], layers: &[u32], (x, y): (f64, f64)) -> Joined {
+        started(contours, layers, Size::default(), StartPointStrategy::Home(Point { x, y }))
+    }
+
+    fn started(
+        contours: &[&[(f64, f64)]],
+        layers: &[u32],
+        size: Size,
+        strategy: StartPointStrategy,
+    ) -> Joined {
         let points: Vec<f64> =
             contours.iter().flat_map(|c| c.iter().flat_map(|p| [p.0, p.1])).collect();
         let lengths: Vec<u32> = contours.iter().map(|c| c.len() as u32).collect();
-        let (size, strategy) = (Size { width, height }, StartPointStrategy::Inside);
         let handed = Handed { points, lengths, layers: layers.to_vec(), size, strategy };
         let path = handed.plate().retrace(size, strategy).unwrap();
         Joined::new(handed, path)
@@ -204,6 +233,28 @@ pub mod tests {
         let plain = joined(&contours, 0, 0);
         assert!(lines(&plain).iter().all(|line| !line.contains("layer")));
         assert!(details(&plain, &plain.tell(1)).iter().all(|&(label, _)| label != "layer"));
+    }
+
+    #[test]
+    fn a_parked_point_is_told_with_the_start() {
+        let contours: [&[(f64, f64)]; 2] = [&[(0.0, 0.0), (4.0, 0.0)], &[(4.0, 1.0)]];
+        let plate = parked(&contours, &[0, 0], (7.0, -4.0));
+        let expected = [
+            "0 start (4,0) on contour 0 vertex 1 home (7,-4)",
+            "1 cut (4,0) -> (0,0) length 4 contour 0 segment 0 reversed",
+        ];
+        assert_eq!(lines(&plate)[..2], expected);
+        let start = start_details(&plate);
+        assert_eq!(start[2], ("home", "parked at (7,-4), length 5".to_owned()));
+        let told = details(&plate, &plate.tell(1));
+        assert_eq!(told.last(), Some(&("home", "parked at (7,-4)".to_owned())));
+        let plate = parked(&contours, &[3, 3], (-0.0, 1e-300));
+        let first = "0 start (0,0) on contour 0 vertex 0 home (-0,1e-300) layer 3";
+        assert_eq!(lines(&plate)[0], first);
+        let without = joined(&contours, 0, 0);
+        assert!(lines(&without).iter().all(|line| !line.contains("home")));
+        assert!(details(&without, &without.tell(1)).iter().all(|&(label, _)| label != "home"));
+        assert!(start_details(&without).iter().all(|&(label, _)| label != "home"));
     }
 
     /// Plate F of document 01: the second contour is entered in its middle.

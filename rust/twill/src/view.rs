@@ -5,6 +5,7 @@ use crate::joined::Joined;
 use crate::number;
 use crate::plate::word;
 use std::fmt::Write;
+use twillharbor::Point;
 
 const TEMPLATE: &str = include_str!("view/page.html");
 const STYLE: &str = include_str!("view/page.css");
@@ -92,6 +93,7 @@ fn data(joined: &Joined, name: &str, at: Option<u32>) -> String {
     let marks = joined.path.marks().iter().flat_map(|mark| mark.numbers());
     let lengths = (1..=joined.count()).map(|number| joined.tell(number).length);
     let layers = || ("layers", array(plate.layers.iter().map(u32::to_string)));
+    let home = |home: Point| ("home", array([home.x, home.y].into_iter().map(number::json)));
     let members = [
         ("name", in_json(name)),
         ("width", plate.size.width.to_string()),
@@ -107,7 +109,8 @@ fn data(joined: &Joined, name: &str, at: Option<u32>) -> String {
         ("marks", array(marks.map(|m| m.to_string()))),
         ("lengths", array(lengths.map(number::json))),
     ];
-    let members = members.into_iter().chain(plate.is_layered().then(layers));
+    let members = members.into_iter().chain(plate.home().map(home));
+    let members = members.chain(plate.is_layered().then(layers));
     // Otherwise they follow from the marks.
     let vertices = || {
         let vertices = (0..counts.points).map(|place| joined.vertex(place).to_string());
@@ -124,7 +127,7 @@ mod tests {
     use super::FIRST_LINE;
     use crate::joined::Joined;
     use crate::number;
-    use crate::tell::tests::{joined, layered};
+    use crate::tell::tests::{joined, layered, parked};
 
     fn page(joined: &Joined, name: &str) -> String {
         super::page(joined, name, None)
@@ -181,6 +184,16 @@ mod tests {
         assert_eq!(numbers(&with, "layers"), ["3", "0", "15"]);
         let without = page(&joined(&contours, 0, 0), "a");
         assert!(!without.contains("\n\"layers\":"));
+    }
+
+    #[test]
+    fn the_data_block_holds_the_parked_point_if_there_is_one() {
+        let contours: [&[(f64, f64)]; 2] = [&[(0.0, 0.0)], &[(1.0, 0.0), (2.0, 0.0)]];
+        let with = page(&parked(&contours, &[0, 1], (2.5, -0.0)), "a");
+        let short = ["start", "home", "layers", "path"];
+        let values = ["\"home\"", "[2.5,-0.0]", "[0,1]", "[0,0,1,0,2,0]"];
+        assert_eq!(short.map(|key| member(&with, key)), values);
+        assert!(!page(&joined(&contours, 5, 0), "a").contains("\n\"home\":"));
     }
 
     #[test]

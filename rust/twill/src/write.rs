@@ -8,7 +8,7 @@ use crate::number::{json, show};
 use crate::plate::{self, Handed, word};
 use crate::words;
 use std::fmt::Write;
-use twillharbor::{Entry, Mark, Point, Start};
+use twillharbor::{Entry, Mark, Point, Start, StartPointStrategy};
 
 /// The path with its marks.
 pub fn retrace(joined: &Joined, format: Format) -> String {
@@ -175,12 +175,15 @@ fn line(text: &mut String, line: std::fmt::Arguments<'_>) {
 /// The terms of a plate, as members of a JSON object.
 fn head(plate: &Handed) -> String {
     let size = plate.size;
+    let home = plate
+        .home()
+        .map_or(String::new(), |home| format!(",\"home\":[{},{}]", json(home.x), json(home.y)));
     let layers = match plate.is_layered() {
         true => format!(",\"layers\":[{}]", numbers(&plate.layers, ",")),
         false => String::new(),
     };
     format!(
-        "\"width\":{},\"height\":{},\"start\":\"{}\"{layers}",
+        "\"width\":{},\"height\":{},\"start\":\"{}\"{home}{layers}",
         size.width,
         size.height,
         word(plate.strategy)
@@ -206,8 +209,8 @@ fn bracketed(points: &[Point]) -> String {
     points.iter().map(|&p| plate::point(p)).collect()
 }
 
-/// A plate as document 01 writes its marked plates: `(0,0)(4,0) | (4,1)(8,1), 8 by 2, Outside`, and
-/// `, layers 0 1` where it has layers.
+/// A plate as document 01 writes its marked plates: `(0,0)(4,0) | (4,1)(8,1), 8 by 2, Outside`, with
+/// a parked point `Home (12,0.5)`, and `, layers 0 1` where it has layers.
 fn row(plate: &Handed) -> String {
     let contour = |points: Vec<Point>| match points.as_slice() {
         [] => "empty".into(),
@@ -215,8 +218,9 @@ fn row(plate: &Handed) -> String {
     };
     let contours: Vec<String> = plate.contours().map(contour).collect();
     let strategy = match plate.strategy {
-        twillharbor::StartPointStrategy::Outside => "Outside",
-        twillharbor::StartPointStrategy::Inside => "Inside",
+        StartPointStrategy::Outside => "Outside".into(),
+        StartPointStrategy::Inside => "Inside".into(),
+        StartPointStrategy::Home(home) => format!("Home {}", plate::point(home)),
     };
     let contours = if contours.is_empty() { "none".into() } else { contours.join(" | ") };
     let layers = match plate.is_layered() {

@@ -191,6 +191,19 @@ fn keys_go_to_jumps_and_to_touches() {
 }
 
 #[test]
+fn the_parked_point_stays_in_sight() {
+    let plate = "start home 12,-1\n(0,0)(4,0) | (5,3)(9,3)\n";
+    let mut terminal = Terminal::with(plate, "parked", "cols 80 rows 24", "NO_COLOR=1");
+    terminal.wait("pair 1 of 3  - cut");
+    terminal.press("0\r", "home       parked at (12,-1), length 5");
+    terminal.press("j", "pair 2 of 3  ^ jump");
+    terminal.send("q");
+    let rows = screen(&terminal.end());
+    assert_eq!(rows[10], "home       parked at (12,-1)");
+    assert_eq!(rows[12], "  0 o start     (9,3) on contour 1 vertex 1 home (12,-1)");
+}
+
+#[test]
 fn each_way_to_leave_restores_the_terminal() {
     for (name, keys) in [("ctrl-c", "\x03"), ("ctrl-d", "\x04"), ("escape", "\x1B"), ("end", "")] {
         let mut terminal = Terminal::new(name, "cols 40 rows 12", "");

@@ -106,6 +106,24 @@ unsafe extern "C" {
     ) -> StartResult;
 
     /// ```c
+    /// struct twillharbor_start_result twillharbor_start_home(
+    ///     const double *points, size_t points_length,
+    ///     const uint32_t *lengths, size_t lengths_length,
+    ///     const uint32_t *layers, size_t layers_length,
+    ///     double home_x, double home_y);
+    /// ```
+    fn twillharbor_start_home(
+        points: *const f64,
+        points_length: usize,
+        lengths: *const u32,
+        lengths_length: usize,
+        layers: *const u32,
+        layers_length: usize,
+        home_x: f64,
+        home_y: f64,
+    ) -> StartResult;
+
+    /// ```c
     /// struct twillharbor_order_result twillharbor_order(
     ///     const double *points, size_t points_length,
     ///     const uint32_t *lengths, size_t lengths_length,
@@ -124,6 +142,30 @@ unsafe extern "C" {
         width: u32,
         height: u32,
         inside: bool,
+        order: *mut u32,
+        order_length: usize,
+        work: *mut u32,
+        work_length: usize,
+    ) -> OrderResult;
+
+    /// ```c
+    /// struct twillharbor_order_result twillharbor_order_home(
+    ///     const double *points, size_t points_length,
+    ///     const uint32_t *lengths, size_t lengths_length,
+    ///     const uint32_t *layers, size_t layers_length,
+    ///     double home_x, double home_y,
+    ///     uint32_t *order, size_t order_length,
+    ///     uint32_t *work, size_t work_length);
+    /// ```
+    fn twillharbor_order_home(
+        points: *const f64,
+        points_length: usize,
+        lengths: *const u32,
+        lengths_length: usize,
+        layers: *const u32,
+        layers_length: usize,
+        home_x: f64,
+        home_y: f64,
         order: *mut u32,
         order_length: usize,
         work: *mut u32,
@@ -156,6 +198,30 @@ unsafe extern "C" {
     ) -> StraightResult;
 
     /// ```c
+    /// struct twillharbor_straight_result twillharbor_straight_home(
+    ///     const double *points, size_t points_length,
+    ///     const uint32_t *lengths, size_t lengths_length,
+    ///     const uint32_t *layers, size_t layers_length,
+    ///     double home_x, double home_y,
+    ///     double *path, size_t path_length,
+    ///     uint32_t *work, size_t work_length);
+    /// ```
+    fn twillharbor_straight_home(
+        points: *const f64,
+        points_length: usize,
+        lengths: *const u32,
+        lengths_length: usize,
+        layers: *const u32,
+        layers_length: usize,
+        home_x: f64,
+        home_y: f64,
+        path: *mut f64,
+        path_length: usize,
+        work: *mut u32,
+        work_length: usize,
+    ) -> StraightResult;
+
+    /// ```c
     /// struct twillharbor_retrace_result twillharbor_retrace(
     ///     const double *points, size_t points_length,
     ///     const uint32_t *lengths, size_t lengths_length,
@@ -176,6 +242,36 @@ unsafe extern "C" {
         width: u32,
         height: u32,
         inside: bool,
+        path: *mut f64,
+        path_length: usize,
+        marks: *mut u32,
+        marks_length: usize,
+        work: *mut u32,
+        work_length: usize,
+        distances: *mut f64,
+        distances_length: usize,
+    ) -> RetraceResult;
+
+    /// ```c
+    /// struct twillharbor_retrace_result twillharbor_retrace_home(
+    ///     const double *points, size_t points_length,
+    ///     const uint32_t *lengths, size_t lengths_length,
+    ///     const uint32_t *layers, size_t layers_length,
+    ///     double home_x, double home_y,
+    ///     double *path, size_t path_length,
+    ///     uint32_t *marks, size_t marks_length,
+    ///     uint32_t *work, size_t work_length,
+    ///     double *distances, size_t distances_length);
+    /// ```
+    fn twillharbor_retrace_home(
+        points: *const f64,
+        points_length: usize,
+        lengths: *const u32,
+        lengths_length: usize,
+        layers: *const u32,
+        layers_length: usize,
+        home_x: f64,
+        home_y: f64,
         path: *mut f64,
         path_length: usize,
         marks: *mut u32,
@@ -233,6 +329,29 @@ pub fn start(
     }
 }
 
+/// `twillharbor_start_home` on Rust's slices.
+pub fn start_home(
+    points: &[f64],
+    lengths: &[u32],
+    layers: &[u32],
+    home_x: f64,
+    home_y: f64,
+) -> StartResult {
+    // SAFETY: each slice goes as its pointer and its length, and the call writes none.
+    unsafe {
+        twillharbor_start_home(
+            points.as_ptr(),
+            points.len(),
+            lengths.as_ptr(),
+            lengths.len(),
+            layers.as_ptr(),
+            layers.len(),
+            home_x,
+            home_y,
+        )
+    }
+}
+
 /// `twillharbor_order` on Rust's slices.
 #[allow(clippy::too_many_arguments)]
 pub fn order(
@@ -266,6 +385,36 @@ pub fn order(
     }
 }
 
+/// `twillharbor_order_home` on Rust's slices.
+pub fn order_home(
+    points: &[f64],
+    lengths: &[u32],
+    layers: &[u32],
+    home_x: f64,
+    home_y: f64,
+    order: &mut [u32],
+    work: &mut [u32],
+) -> OrderResult {
+    // SAFETY: each slice goes as its pointer and its length; those that the call writes are
+    // lent to it alone.
+    unsafe {
+        twillharbor_order_home(
+            points.as_ptr(),
+            points.len(),
+            lengths.as_ptr(),
+            lengths.len(),
+            layers.as_ptr(),
+            layers.len(),
+            home_x,
+            home_y,
+            order.as_mut_ptr(),
+            order.len(),
+            work.as_mut_ptr(),
+            work.len(),
+        )
+    }
+}
+
 /// `twillharbor_straight` on Rust's slices.
 #[allow(clippy::too_many_arguments)]
 pub fn straight(
@@ -291,6 +440,36 @@ pub fn straight(
             width,
             height,
             inside,
+            path.as_mut_ptr(),
+            path.len(),
+            work.as_mut_ptr(),
+            work.len(),
+        )
+    }
+}
+
+/// `twillharbor_straight_home` on Rust's slices.
+pub fn straight_home(
+    points: &[f64],
+    lengths: &[u32],
+    layers: &[u32],
+    home_x: f64,
+    home_y: f64,
+    path: &mut [f64],
+    work: &mut [u32],
+) -> StraightResult {
+    // SAFETY: each slice goes as its pointer and its length; those that the call writes are
+    // lent to it alone.
+    unsafe {
+        twillharbor_straight_home(
+            points.as_ptr(),
+            points.len(),
+            lengths.as_ptr(),
+            lengths.len(),
+            layers.as_ptr(),
+            layers.len(),
+            home_x,
+            home_y,
             path.as_mut_ptr(),
             path.len(),
             work.as_mut_ptr(),
@@ -338,6 +517,43 @@ pub fn retrace(
     }
 }
 
+/// `twillharbor_retrace_home` on Rust's slices.
+#[allow(clippy::too_many_arguments)]
+pub fn retrace_home(
+    points: &[f64],
+    lengths: &[u32],
+    layers: &[u32],
+    home_x: f64,
+    home_y: f64,
+    path: &mut [f64],
+    marks: &mut [u32],
+    work: &mut [u32],
+    distances: &mut [f64],
+) -> RetraceResult {
+    // SAFETY: each slice goes as its pointer and its length; those that the call writes are
+    // lent to it alone.
+    unsafe {
+        twillharbor_retrace_home(
+            points.as_ptr(),
+            points.len(),
+            lengths.as_ptr(),
+            lengths.len(),
+            layers.as_ptr(),
+            layers.len(),
+            home_x,
+            home_y,
+            path.as_mut_ptr(),
+            path.len(),
+            marks.as_mut_ptr(),
+            marks.len(),
+            work.as_mut_ptr(),
+            work.len(),
+            distances.as_mut_ptr(),
+            distances.len(),
+        )
+    }
+}
+
 /// `twillharbor_check_path` on Rust's slices.
 pub fn check_path(
     points: &[f64],
@@ -366,10 +582,16 @@ pub fn check_path(
 
 #[cfg(test)]
 mod tests {
-    use super::{RetraceResult, order, retrace, start, straight, twillharbor_distance};
+    use super::{
+        RetraceResult, order, order_home, retrace, retrace_home, start, start_home, straight,
+        straight_home, twillharbor_distance,
+    };
 
     /// Points, lengths and layers, and the number and place with which they are refused.
     type Refused<'a> = (&'a [f64], &'a [u32], &'a [u32], u32, u32);
+
+    /// Points, lengths and the parked point, and the number and place with which they are refused.
+    type Parked<'a> = (&'a [f64], &'a [u32], [f64; 2], u32, u32);
 
     fn numbers(r: RetraceResult) -> [u32; 7] {
         [r.number, r.place, r.points, r.cuts, r.back_steps, r.jumps, r.touches]
@@ -426,6 +648,44 @@ mod tests {
             }
         }
         let r = start(&[], &[0], &[0], 7, 9, true);
+        assert_eq!([r.number, r.place, r.contour, r.reversed], [7, 0, 0, 0]);
+    }
+
+    #[test]
+    fn refusals_of_the_home_forms_leave_the_other_fields_zero() {
+        let off = f64::INFINITY;
+        let plates: [Parked; 6] = [
+            (&[off], &[1], [off, off], 3, 0),
+            (&[off, 0.0], &[1], [off, off], 4, 0),
+            (&[off, 0.0], &[1], [0.0, off], 4, 1),
+            (&[0.0, 0.0], &[1], [off, 0.0], 4, 0),
+            (&[0.0, 0.0, 1.0, off], &[2], [0.0, 0.0], 4, 3),
+            (&[0.0, 0.0], &[1], [0.0, 0.0], 5, 0),
+        ];
+        for (points, lengths, [x, y], number, place) in plates {
+            if number != 5 {
+                let r = start_home(points, lengths, &[0], x, y);
+                assert_eq!([r.number, r.place, r.contour, r.reversed], [number, place, 0, 0]);
+            }
+            let r = order_home(points, lengths, &[0], x, y, &mut [8; 4], &mut []);
+            assert_eq!([r.number, r.place, r.entries], [number, place, 0]);
+            let r = straight_home(points, lengths, &[0], x, y, &mut [8.0; 4], &mut []);
+            assert_eq!([r.number, r.place, r.points], [number, place, 0]);
+            let (mut path, mut marks, mut work) = ([8.0; 4], [8; 4], [8]);
+            let r = retrace_home(
+                points,
+                lengths,
+                &[0],
+                x,
+                y,
+                &mut path,
+                &mut marks,
+                &mut work,
+                &mut [8.0],
+            );
+            assert_eq!(numbers(r), [number, place, 0, 0, 0, 0, 0]);
+        }
+        let r = start_home(&[], &[0], &[0], -5.5, 1e6);
         assert_eq!([r.number, r.place, r.contour, r.reversed], [7, 0, 0, 0]);
     }
 

@@ -8,6 +8,7 @@
 //! The functions take a plate without layers; [`Plate`] has the same calls for one with layers.
 
 use crate::{Point, Refusal, c, refusal};
+use StartPointStrategy::{Home, Inside, Outside};
 
 /// More contours are refused before any other slice counts.
 pub(crate) const MOST_CONTOURS: usize = 4_096;
@@ -61,13 +62,18 @@ impl<'a> Plate<'a> {
     ///
     /// # Errors
     ///
-    /// Those of [`start`](start()), and [`BadLayer`](Refusal::BadLayer) before
-    /// [`OffThePlate`](Refusal::OffThePlate).
+    /// Those of [`start`](start()), and [`BadLayer`](Refusal::BadLayer) after
+    /// [`Miscounted`](Refusal::Miscounted).
     pub fn start(&self, size: Size, strategy: StartPointStrategy) -> Result<Start, Refusal> {
         let Self { points, lengths, layers } = *self;
-        let inside = strategy.is_inside();
-        let result = c::start(points, lengths, layers, size.width, size.height, inside);
-        self.accepted(result.number, result.place)?;
+        let Size { width, height } = size;
+        let result = match strategy {
+            Home(home) => c::start_home(points, lengths, layers, home.x, home.y),
+            Outside | Inside => {
+                c::start(points, lengths, layers, width, height, strategy.is_inside())
+            }
+        };
+        self.accepted(result.number, result.place, strategy)?;
         Ok(Start { contour: result.contour, reversed: is_reversed(result.reversed) })
     }
 
@@ -75,8 +81,8 @@ impl<'a> Plate<'a> {
     ///
     /// # Errors
     ///
-    /// Those of [`order`](order()), and [`BadLayer`](Refusal::BadLayer) before
-    /// [`OffThePlate`](Refusal::OffThePlate).
+    /// Those of [`order`](order()), and [`BadLayer`](Refusal::BadLayer) after
+    /// [`Miscounted`](Refusal::Miscounted).
     pub fn order(&self, size: Size, strategy: StartPointStrategy) -> Result<Vec<Entry>, Refusal> {
         let contours = self.lengths.len().min(MOST_CONTOURS);
         let mut order = vec![0; 2 * contours];
@@ -93,8 +99,8 @@ impl<'a> Plate<'a> {
     ///
     /// # Errors
     ///
-    /// Those of [`order_into`], and [`BadLayer`](Refusal::BadLayer) before
-    /// [`OffThePlate`](Refusal::OffThePlate), which alters no slice either.
+    /// Those of [`order_into`], and [`BadLayer`](Refusal::BadLayer), which alters no slice either, after
+    /// [`Miscounted`](Refusal::Miscounted).
     pub fn order_into(
         &self,
         size: Size,
@@ -103,10 +109,15 @@ impl<'a> Plate<'a> {
         work: &mut [u32],
     ) -> Result<usize, Refusal> {
         let Self { points, lengths, layers } = *self;
-        let inside = strategy.is_inside();
-        let result =
-            c::order(points, lengths, layers, size.width, size.height, inside, order, work);
-        self.accepted(result.number, result.place)?;
+        let Size { width, height } = size;
+        let result = match strategy {
+            Home(home) => c::order_home(points, lengths, layers, home.x, home.y, order, work),
+            Outside | Inside => {
+                let inside = strategy.is_inside();
+                c::order(points, lengths, layers, width, height, inside, order, work)
+            }
+        };
+        self.accepted(result.number, result.place, strategy)?;
         Ok(result.entries as usize)
     }
 
@@ -114,8 +125,8 @@ impl<'a> Plate<'a> {
     ///
     /// # Errors
     ///
-    /// Those of [`straight`](straight()), and [`BadLayer`](Refusal::BadLayer) before
-    /// [`OffThePlate`](Refusal::OffThePlate).
+    /// Those of [`straight`](straight()), and [`BadLayer`](Refusal::BadLayer) after
+    /// [`Miscounted`](Refusal::Miscounted).
     pub fn straight(
         &self,
         size: Size,
@@ -132,8 +143,8 @@ impl<'a> Plate<'a> {
     ///
     /// # Errors
     ///
-    /// Those of [`straight_into`], and [`BadLayer`](Refusal::BadLayer) before
-    /// [`OffThePlate`](Refusal::OffThePlate), which alters no slice either.
+    /// Those of [`straight_into`], and [`BadLayer`](Refusal::BadLayer), which alters no slice either, after
+    /// [`Miscounted`](Refusal::Miscounted).
     pub fn straight_into(
         &self,
         size: Size,
@@ -142,19 +153,30 @@ impl<'a> Plate<'a> {
         work: &mut [u32],
     ) -> Result<usize, Refusal> {
         let Self { points, lengths, layers } = *self;
-        let inside = strategy.is_inside();
-        let result =
-            c::straight(points, lengths, layers, size.width, size.height, inside, path, work);
-        self.accepted(result.number, result.place)?;
+        let Size { width, height } = size;
+        let result = match strategy {
+            Home(home) => c::straight_home(points, lengths, layers, home.x, home.y, path, work),
+            Outside | Inside => {
+                let inside = strategy.is_inside();
+                c::straight(points, lengths, layers, width, height, inside, path, work)
+            }
+        };
+        self.accepted(result.number, result.place, strategy)?;
         Ok(result.points as usize)
     }
 
-    pub(crate) fn accepted(&self, number: u32, place: u32) -> Result<(), Refusal> {
-        refusal::accepted_plate(number, place, self.lengths.len())
+    pub(crate) fn accepted(
+        &self,
+        number: u32,
+        place: u32,
+        strategy: StartPointStrategy,
+    ) -> Result<(), Refusal> {
+        refusal::accepted_plate(number, place, self.lengths.len(), strategy)
     }
 }
 
-/// The width and the height of a plate, of which the centre is half.
+/// The width and the height of a plate, of which the centre is half. With
+/// [`Home`](StartPointStrategy::Home) they do not count.
 #[derive(Debug, Clone, Copy, PartialEq, Eq, Default)]
 pub struct Size {
     /// Twice the centre's horizontal position.
@@ -164,13 +186,26 @@ pub struct Size {
 }
 
 /// Which end of a contour comes first: contours in order, first point before last.
-#[derive(Debug, Clone, Copy, PartialEq, Eq, Default)]
+///
+/// ```
+/// use twillharbor::{Point, Size, StartPointStrategy::Home, start};
+///
+/// // (0,0)(4,0) | (5,3)(9,3): the second contour's last point is nearest to the parked point.
+/// let (points, lengths) = ([0.0, 0.0, 4.0, 0.0, 5.0, 3.0, 9.0, 3.0], [2, 2]);
+/// let first = start(&points, &lengths, Size::default(), Home(Point { x: 12.0, y: 0.5 })).unwrap();
+/// assert_eq!((first.contour, first.reversed), (1, true));
+/// ```
+#[derive(Debug, Clone, Copy, PartialEq, Default)]
 pub enum StartPointStrategy {
     /// A strictly larger squared distance from the centre is taken.
     #[default]
     Outside,
     /// A strictly smaller squared distance from the centre is taken.
     Inside,
+    /// A strictly smaller squared distance from the parked point is taken. That point counts as it
+    /// is, and may be far from every contour; each of its coordinates is at most 1,000,000 in
+    /// magnitude.
+    Home(Point),
 }
 
 impl StartPointStrategy {
@@ -202,8 +237,8 @@ pub struct Entry {
 /// # Errors
 ///
 /// [`TooManyContours`](Refusal::TooManyContours), [`TooManyPoints`](Refusal::TooManyPoints),
-/// [`Miscounted`](Refusal::Miscounted), [`OffThePlate`](Refusal::OffThePlate) and
-/// [`Blank`](Refusal::Blank).
+/// [`Miscounted`](Refusal::Miscounted), [`HomeOffThePlate`](Refusal::HomeOffThePlate),
+/// [`OffThePlate`](Refusal::OffThePlate) and [`Blank`](Refusal::Blank).
 pub fn start(
     points: &[f64],
     lengths: &[u32],
@@ -220,7 +255,8 @@ pub fn start(
 /// # Errors
 ///
 /// [`TooManyContours`](Refusal::TooManyContours), [`TooManyPoints`](Refusal::TooManyPoints),
-/// [`Miscounted`](Refusal::Miscounted) and [`OffThePlate`](Refusal::OffThePlate).
+/// [`Miscounted`](Refusal::Miscounted), [`HomeOffThePlate`](Refusal::HomeOffThePlate) and
+/// [`OffThePlate`](Refusal::OffThePlate).
 pub fn order(
     points: &[f64],
     lengths: &[u32],
@@ -258,7 +294,8 @@ pub fn order_into(
 /// # Errors
 ///
 /// [`TooManyContours`](Refusal::TooManyContours), [`TooManyPoints`](Refusal::TooManyPoints),
-/// [`Miscounted`](Refusal::Miscounted) and [`OffThePlate`](Refusal::OffThePlate).
+/// [`Miscounted`](Refusal::Miscounted), [`HomeOffThePlate`](Refusal::HomeOffThePlate) and
+/// [`OffThePlate`](Refusal::OffThePlate).
 pub fn straight(
     points: &[f64],
     lengths: &[u32],

@@ -1,13 +1,18 @@
-use crate::HIGHEST_LAYER;
+use crate::{HIGHEST_LAYER, StartPointStrategy};
 use std::cmp::Ordering;
 use std::error::Error;
 use std::fmt;
 
 const BAD_LAYER: u32 = 13;
+const OFF_THE_PLATE: u32 = 4;
 const NOT_DRAWN: u32 = 12;
 
+/// The greatest magnitude of a coordinate of a plate, and of its parked point.
+const HIGHEST_COORDINATE: f64 = 1_000_000.0;
+
 /// Why a call was refused: the table of documents 01 and 02. Its conditions are tested in this
-/// order, 13 between 3 and 4, and 3 of a path that is checked after 4; the first that holds wins.
+/// order, 13 between 3 and 4, 4 of a parked point before that of the contours' coordinates, and 3
+/// of a path that is checked after 4; the first that holds wins.
 #[derive(Debug, Clone, Copy, PartialEq, Eq, Hash)]
 #[non_exhaustive]
 pub enum Refusal {
@@ -20,6 +25,12 @@ pub enum Refusal {
     Miscounted,
     /// 13: the layer slice has not one number for each contour, or a layer is above 15.
     BadLayer(LayerFault),
+    /// 4: a coordinate of the [parked point](StartPointStrategy::Home) is NaN, infinite or of
+    /// magnitude above 1,000,000.
+    HomeOffThePlate {
+        /// 0 for the parked point's x; 1 for its y, its x being within the limit.
+        place: u32,
+    },
     /// 4: a coordinate is NaN, infinite or beyond the call's limit.
     OffThePlate {
         /// The first such coordinate.
@@ -69,7 +80,7 @@ impl Refusal {
             Self::TooManyPoints => 2,
             Self::Miscounted => 3,
             Self::BadLayer(_) => BAD_LAYER,
-            Self::OffThePlate { .. } => 4,
+            Self::HomeOffThePlate { .. } | Self::OffThePlate { .. } => OFF_THE_PLATE,
             Self::WorkShort { .. } => 5,
             Self::Full { .. } => 6,
             Self::Blank => 7,
@@ -85,7 +96,7 @@ impl Refusal {
             Self::TooManyPoints => "too many points",
             Self::Miscounted => "miscounted",
             Self::BadLayer(_) => "bad layer",
-            Self::OffThePlate { .. } => "off the plate",
+            Self::HomeOffThePlate { .. } | Self::OffThePlate { .. } => "off the plate",
             Self::WorkShort { .. } => "work short",
             Self::Full { .. } => "full",
             Self::Blank => "blank",
@@ -97,7 +108,8 @@ impl Refusal {
     #[must_use]
     pub const fn place(self) -> u64 {
         match self {
-            Self::OffThePlate { place }
+            Self::HomeOffThePlate { place }
+            | Self::OffThePlate { place }
             | Self::WorkShort { place }
             | Self::Full { place }
             | Self::BadLayer(
@@ -114,6 +126,8 @@ impl fmt::Display for Refusal {
         write!(f, "{} (refusal {}, place {})", self.word(), self.number(), self.place())?;
         match self {
             Self::BadLayer(fault) => write!(f, ": {fault}"),
+            Self::HomeOffThePlate { place: 0 } => write!(f, ": the parked point's x"),
+            Self::HomeOffThePlate { .. } => write!(f, ": the parked point's y"),
             _ => Ok(()),
         }
     }
@@ -156,23 +170,45 @@ pub(crate) fn accepted(number: u32, place: u32) -> Result<(), Refusal> {
     })
 }
 
-/// [`accepted`] for a call that takes a plate, which may have layers. A place of refusal 13 is
-/// below the number of contours where it is a contour's.
+/// [`accepted`] for a call that takes a plate, which may have layers, and a strategy. A place of
+/// refusal 13 is below the number of contours where it is a contour's. One of refusal 4 is the
+/// parked point's exactly if that is off the plate, for it is tested before the contours.
 ///
 /// # Panics
 ///
 /// As [`accepted`].
-pub(crate) fn accepted_plate(number: u32, place: u32, contours: usize) -> Result<(), Refusal> {
-    if number != BAD_LAYER {
-        return accepted(number, place);
+pub(crate) fn accepted_plate(
+    number: u32,
+    place: u32,
+    contours: usize,
+    strategy: StartPointStrategy,
+) -> Result<(), Refusal> {
+    match number {
+        BAD_LAYER => Err(Refusal::BadLayer(match (place as usize).cmp(&contours) {
+            Ordering::Less => LayerFault::Layer { contour: place },
+            Ordering::Equal => LayerFault::Length { contours: place },
+            Ordering::Greater => {
+                panic!("libtwillharbor.a refused a layer of contour {place} of {contours}")
+            }
+        })),
+        OFF_THE_PLATE => Err(match home_off_the_plate(strategy) {
+            Some(home) if home == place => Refusal::HomeOffThePlate { place },
+            Some(_) => panic!("libtwillharbor.a answered number 4, place {place}, of {strategy:?}"),
+            None => Refusal::OffThePlate { place },
+        }),
+        _ => accepted(number, place),
     }
-    Err(Refusal::BadLayer(match (place as usize).cmp(&contours) {
-        Ordering::Less => LayerFault::Layer { contour: place },
-        Ordering::Equal => LayerFault::Length { contours: place },
-        Ordering::Greater => {
-            panic!("libtwillharbor.a refused a layer of contour {place} of {contours}")
-        }
-    }))
+}
+
+/// The place of the parked point's first coordinate that is off the plate, if there is one.
+fn home_off_the_plate(strategy: StartPointStrategy) -> Option<u32> {
+    let StartPointStrategy::Home(home) = strategy else { return None };
+    let is_within = |coordinate: f64| coordinate.abs() <= HIGHEST_COORDINATE;
+    match (is_within(home.x), is_within(home.y)) {
+        (false, _) => Some(0),
+        (true, false) => Some(1),
+        (true, true) => None,
+    }
 }
 
 /// [`accepted`] for the check of a path of that many points.
@@ -192,7 +228,20 @@ pub(crate) fn accepted_path(number: u32, place: u64, points: usize) -> Result<()
 
 #[cfg(test)]
 mod tests {
-    use super::{LayerFault, Refusal, accepted, accepted_path, accepted_plate};
+    use super::{LayerFault, Refusal, accepted, accepted_path};
+    use crate::StartPointStrategy::{self, Home, Inside, Outside};
+    use crate::{Point, refusal};
+
+    /// Of a plate that has no parked point.
+    fn accepted_plate(number: u32, place: u32, contours: usize) -> Result<(), Refusal> {
+        let outcome = refusal::accepted_plate(number, place, contours, Inside);
+        assert_eq!(outcome, refusal::accepted_plate(number, place, contours, Outside));
+        outcome
+    }
+
+    fn accepted_4(place: u32, strategy: StartPointStrategy) -> Result<(), Refusal> {
+        refusal::accepted_plate(4, place, 9, strategy)
+    }
 
     #[test]
     fn numbers_words_and_places_are_those_of_the_table() {
@@ -253,6 +302,41 @@ mod tests {
             assert_eq!(refusal.to_string(), message);
         }
         assert_eq!(accepted_plate(0, 0, 0), Ok(()));
+    }
+
+    #[test]
+    fn off_the_plate_is_a_parked_points_or_a_contours() {
+        let limit = 1_000_000.0_f64;
+        let beyond = limit.next_up();
+        for off in [beyond, -beyond, f64::INFINITY, f64::NEG_INFINITY, f64::NAN] {
+            for (x, y, place, axis) in
+                [(off, 0.0, 0, "x"), (off, off, 0, "x"), (limit, off, 1, "y")]
+            {
+                let home = Home(Point { x, y });
+                let refusal = accepted_4(place, home).unwrap_err();
+                assert_eq!(refusal, Refusal::HomeOffThePlate { place });
+                assert_eq!((refusal.number(), refusal.place()), (4, place.into()));
+                assert_eq!(refusal.word(), "off the plate");
+                let message =
+                    format!("off the plate (refusal 4, place {place}): the parked point's {axis}");
+                assert_eq!(refusal.to_string(), message);
+                assert!(std::panic::catch_unwind(|| accepted_4(1 - place, home)).is_err());
+                assert!(std::panic::catch_unwind(|| accepted_4(7, home)).is_err());
+            }
+        }
+        for (x, y) in [(limit, -limit), (-0.0, 5e-324), (-2.5, 1e-300)] {
+            for place in [0, 1, 131_071] {
+                let refusal = accepted_4(place, Home(Point { x, y }));
+                assert_eq!(refusal, Err(Refusal::OffThePlate { place }));
+            }
+        }
+        assert_eq!(accepted_4(1, Inside), Err(Refusal::OffThePlate { place: 1 }));
+        // What is tested before the parked point, or does not ask for it, stays what it is.
+        let off = Home(Point { x: f64::NAN, y: 0.0 });
+        assert_eq!(refusal::accepted_plate(3, 0, 9, off), Err(Refusal::Miscounted));
+        let layer = Refusal::BadLayer(LayerFault::Layer { contour: 0 });
+        assert_eq!(refusal::accepted_plate(13, 0, 9, off), Err(layer));
+        assert_eq!(accepted(4, 0), Err(Refusal::OffThePlate { place: 0 }));
     }
 
     #[test]

@@ -2,6 +2,7 @@
 
 use crate::plate::{MOST_CONTOURS, MOST_POINTS};
 use crate::{Plate, Point, Refusal, Size, StartPointStrategy, c};
+use StartPointStrategy::{Home, Inside, Outside};
 
 /// C is at most this, however long the slices are.
 const MOST_PATH_POINTS: usize = 1_048_576;
@@ -237,8 +238,9 @@ pub const fn retrace_work(capacity: usize, points: usize, contours: usize) -> us
 /// # Errors
 ///
 /// [`TooManyContours`](Refusal::TooManyContours), [`TooManyPoints`](Refusal::TooManyPoints),
-/// [`Miscounted`](Refusal::Miscounted), [`OffThePlate`](Refusal::OffThePlate), and
-/// [`Full`](Refusal::Full) with place 1,048,576 where the path has more points than that.
+/// [`Miscounted`](Refusal::Miscounted), [`HomeOffThePlate`](Refusal::HomeOffThePlate),
+/// [`OffThePlate`](Refusal::OffThePlate), and [`Full`](Refusal::Full) with place 1,048,576 where
+/// the path has more points than that.
 pub fn retrace(
     points: &[f64],
     lengths: &[u32],
@@ -283,8 +285,8 @@ impl Plate<'_> {
     ///
     /// # Errors
     ///
-    /// Those of [`retrace`](retrace()), and [`BadLayer`](Refusal::BadLayer) before
-    /// [`OffThePlate`](Refusal::OffThePlate).
+    /// Those of [`retrace`](retrace()), and [`BadLayer`](Refusal::BadLayer) after
+    /// [`Miscounted`](Refusal::Miscounted).
     pub fn retrace(&self, size: Size, strategy: StartPointStrategy) -> Result<MarkedPath, Refusal> {
         // Where these are not the plate's numbers it is refused for them.
         let held = (self.points.len() / 2).min(MOST_POINTS);
@@ -311,8 +313,8 @@ impl Plate<'_> {
     ///
     /// # Errors
     ///
-    /// Those of [`retrace_into`], and [`BadLayer`](Refusal::BadLayer) before
-    /// [`OffThePlate`](Refusal::OffThePlate), which alters no slice either.
+    /// Those of [`retrace_into`], and [`BadLayer`](Refusal::BadLayer), which alters no slice either, after
+    /// [`Miscounted`](Refusal::Miscounted).
     pub fn retrace_into(
         &self,
         size: Size,
@@ -322,19 +324,25 @@ impl Plate<'_> {
         work: &mut [u32],
         distances: &mut [f64],
     ) -> Result<Counts, Refusal> {
-        let result = c::retrace(
-            self.points,
-            self.lengths,
-            self.layers,
-            size.width,
-            size.height,
-            strategy.is_inside(),
-            path,
-            marks,
-            work,
-            distances,
-        );
-        self.accepted(result.number, result.place)?;
+        let Self { points, lengths, layers } = *self;
+        let result = match strategy {
+            Home(home) => c::retrace_home(
+                points, lengths, layers, home.x, home.y, path, marks, work, distances,
+            ),
+            Outside | Inside => c::retrace(
+                points,
+                lengths,
+                layers,
+                size.width,
+                size.height,
+                strategy.is_inside(),
+                path,
+                marks,
+                work,
+                distances,
+            ),
+        };
+        self.accepted(result.number, result.place, strategy)?;
         Ok(Counts {
             points: result.points as usize,
             cuts: result.cuts as usize,

@@ -23,7 +23,7 @@ handed c = plate (c .args .points .now) (c .args .lengths .now) (c .args .layers
 -- a plate that passed the checks
 sound : (c : tie.After-enum-told) →
     let a = c .before .before .before .before .before .before .before .before .args in
-    refusedBy (inputRows (a .points .now) (a .lengths .now) (a .layers .now)) (gives (sum (a .lengths .now))) ≡ gives (c .enum-told .given .0 .0)
+    refusedBy (inputRows (a .points .now) (a .lengths .now) (a .layers .now) (a .strategy)) (gives (sum (a .lengths .now))) ≡ gives (c .enum-told .given .0 .0)
 unfolding checkedAnswer
 sound c = sym (ap checkedAnswer (sym (c .enum-told .given .1)) ∙ c .before .before .check .ensures)
 
@@ -33,7 +33,7 @@ ordered : (c : tie.After-optimize-path-order) →
     Ordered (handed s) (c .optimize-path-order .result) (c .optimize-path-order .last .1 .1 .1 .1 .1 .1 .0)
 unfolding plate
 ordered c =
-    let g = input-gives _ _ _ _ _ (sound (c .before .before .before)) in
+    let g = input-gives _ _ _ _ _ _ (sound (c .before .before .before)) in
     record {
       accepted = g .0;
       layered = g .1;
@@ -66,7 +66,7 @@ returns-2 c =
 optimize-path-order-requires : tie.Need-optimize-path-order-requires
 optimize-path-order-requires c κs =
     let s = c .before .before .before .before .before .before .before .before .before .before in
-    let g = input-gives (s .args .points .now) (s .args .lengths .now) (s .args .layers .now) _ _ (sound (c .before .before)) in
+    let g = input-gives (s .args .points .now) (s .args .lengths .now) (s .args .layers .now) (s .args .strategy) _ _ (sound (c .before .before)) in
     (g .0, omega (arith, c .before .if1 .left), omega (arith, g .1 .counted))
 
 least-requires : tie.Need-least-requires

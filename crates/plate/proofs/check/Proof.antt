@@ -8,21 +8,17 @@ use lib.ListN.{length}
 use borrow.Author.Tests.{lt-ltb, le-ltb, eq-eqb, ne-eqb}
 use borrow.Author.Needs.{needs}
 use Rattle.rules.specs.Tools.{pick, sum}
-use Rattle.rules.specs.HandedOver.{Answer, gives, numberOf, placeOf, refusal, RefusalRow, refusedBy, badLayerCount, badLayer, offThePlate, inputRows}
+use Rattle.rules.specs.HandedOver.{Answer, gives, numberOf, placeOf, refusal, refusedBy, badLayerCount, badLayer, offThePlate, parkedCoordinates, inputRows}
+use Rattle.rules.specs.declared.StartPointStrategy.{StartPointStrategy}
 use Rattle.path.specs.Rows.{rows-give, rows-pass, refusal-refuses}
 use Rattle.plate.specs.Answer.{checkedAnswer, countRows}
 use Rattle.plate.specs.Counted.{Counted, rows-counted}
 use Rattle.plate.proofs.check.Statement.{statement}
 use Rattle.plate.proofs.check.Tie as tie
-use Rattle.plate.proofs.check.Reads as reads
-use Rattle.plate.proofs.check.Lts as lts
-use Rattle.plate.proofs.check_counts.Reads as check-counts-reads
-use Rattle.plate.proofs.first_bad.Reads as first-bad-reads
-use Rattle.plate.proofs.check_points.Reads as check-points-reads
 
 -- where refusals 1 to 3 have let points and lengths pass
 abbrev Told : Type 0
-Told = lts.After-enum-told (check-counts-reads.Asked, check-counts-reads.Learnt, first-bad-reads.Asked, first-bad-reads.Learnt, check-points-reads.Asked, check-points-reads.Learnt) reads.Pre reads.Post
+Told = tie.After-enum-told
 
 abbrev points : Told → List Float
 points c = c .before .before .before .before .before .before .args .points .now
@@ -32,6 +28,9 @@ lengths c = c .before .before .before .before .before .before .args .lengths .no
 
 abbrev layers : Told → List ℕ
 layers c = c .before .before .before .before .before .before .args .layers .now
+
+abbrev strategy : Told → StartPointStrategy
+strategy c = c .before .before .before .before .before .before .args .strategy
 
 sound : (c : Told) → gives (c .enum-told .given .0 .0) ≡ refusedBy (countRows (points c) (lengths c)) (gives (sum (lengths c)))
 unfolding checkedAnswer
@@ -55,7 +54,9 @@ enum-told-2 c = search needs
 -- what refusals 1 to 3 let pass is tested by 13 and 4
 abbrev later : Told → Answer ℕ
 later c =
-    refusedBy (badLayerCount (length (lengths c)) (layers c) ∷ badLayer (layers c) ∷ offThePlate (points c) ∷ []) (gives (sum (lengths c)))
+    refusedBy
+    (badLayerCount (length (lengths c)) (layers c) ∷ badLayer (layers c) ∷ offThePlate (parkedCoordinates (strategy c)) ∷ offThePlate (points c) ∷ [])
+    (gives (sum (lengths c)))
 
 returns : tie.Need-returns
 unfolding checkedAnswer inputRows countRows refusedBy
@@ -64,8 +65,8 @@ returns c =
     ap checkedAnswer (c .enum-told2 .given .1)
     ∙ refusal-refuses (countRows (a .points .now) (a .lengths .now)) _ _ _ (ap checkedAnswer (sym (c .enum-told2 .given .1)) ∙ c .before .before .check-counts .ensures)
 
-cast-t10 : tie.Need-cast-t10
-cast-t10 c =
+cast-t12 : tie.Need-cast-t12
+cast-t12 c =
     let t = c .before in
     omega (arith, few t .contours)
 
@@ -78,8 +79,8 @@ returns-2 c =
 first-bad-requires : tie.Need-first-bad-requires
 first-bad-requires c κs = search needs
 
-cast-t12 : tie.Need-cast-t12
-cast-t12 c =
+cast-t14 : tie.Need-cast-t14
+cast-t14 c =
     let t = c .before .before .before in
     omega (arith, c .if2 .taken, c .before .before .if1 .left, few t .contours)
 
@@ -98,15 +99,20 @@ check-points-requires c κs =
     let t = c .before .before .before in
     omega (arith, few t .points, few t .counted)
 
+check-parked-requires : tie.Need-check-parked-requires
+check-parked-requires c κs = search needs
+
 returns-4 : tie.Need-returns-4
 unfolding inputRows countRows refusedBy badLayerCount badLayer pick
 returns-4 c =
-    let t = c .before .before .before .before in
-    c .check-points .ensures
-    ∙ ap (refusedBy (offThePlate (points t) ∷ [])) (so-far t)
+    let k = c .before in
+    let t = k .before .before .before .before in
+    c .check-parked .ensures
+    ∙ ap (refusedBy (offThePlate (parkedCoordinates (strategy t)) ∷ []))
+    (k .check-points .ensures ∙ ap (refusedBy (offThePlate (points t) ∷ [])) (so-far t))
     ∙ sym
     (passes t (later t)
-    ∙ simp (eq-eqb _ _ (c .before .before .before .if1 .left), ← c .before .before .first-bad .ensures, le-ltb _ _ (c .before .if2 .left)))
+    ∙ simp (eq-eqb _ _ (k .before .before .before .if1 .left), ← k .before .before .first-bad .ensures, le-ltb _ _ (k .before .if2 .left)))
 
 pub check-spec : {M : Type 1} → statement M
 check-spec =
@@ -116,10 +122,11 @@ check-spec =
     enum-told
     enum-told-2
     returns
-    cast-t10
+    cast-t12
     returns-2
     first-bad-requires
-    cast-t12
+    cast-t14
     returns-3
     check-points-requires
+    check-parked-requires
     returns-4)

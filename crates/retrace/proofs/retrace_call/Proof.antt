@@ -63,19 +63,19 @@ handed s = plate (s .args .points .now) (s .args .lengths .now) (s .args .layers
 -- a plate that did not pass the checks
 unsound : (c : tie.After-known-told) →
     let a = start-of (refused-of c) .args in
-    refusal (c .before .checked .given .0 .0) ≡ refusedBy (inputRows (a .points .now) (a .lengths .now) (a .layers .now)) (gives (sum (a .lengths .now)))
+    refusal (c .before .checked .given .0 .0) ≡ refusedBy (inputRows (a .points .now) (a .lengths .now) (a .layers .now) (a .strategy)) (gives (sum (a .lengths .now)))
 unfolding checkedAnswer
 unsound c = ap checkedAnswer (sym (c .before .checked .given .1)) ∙ refused-of c .check .ensures
 
 -- a plate that passed them
 sound : (c : tie.After-enum-told) →
     let a = start-of (check-of c) .args in
-    refusedBy (inputRows (a .points .now) (a .lengths .now) (a .layers .now)) (gives (sum (a .lengths .now))) ≡ gives (c .enum-told .given .0 .0)
+    refusedBy (inputRows (a .points .now) (a .lengths .now) (a .layers .now) (a .strategy)) (gives (sum (a .lengths .now))) ≡ gives (c .enum-told .given .0 .0)
 unfolding checkedAnswer
 sound c = sym (ap checkedAnswer (sym (c .enum-told .given .1)) ∙ check-of c .check .ensures)
 
 accepted : (c : tie.After-enum-told) → let a = start-of (check-of c) .args in Accepted (a .points .now) (a .lengths .now)
-accepted c = input-gives _ _ _ _ _ (sound c) .0
+accepted c = input-gives _ _ _ _ _ _ (sound c) .0
 
 -- the room that was worked out is C
 room-is : (c : tie.After-least2) → let a = origin-of c .args in c .least2 .result ≡ retraceRoom (length (a .path .now)) (length (a .marks .now))
@@ -200,7 +200,7 @@ join-retrace-requires c κs =
         work-room = omega (arith, test .before .if1 .left, a .counted);
         distances-room = omega (arith, test .if2 .left);
       },
-      input-gives _ _ _ _ _ (sound told) .1 .counted,
+      input-gives _ _ _ _ _ _ (sound told) .1 .counted,
     )
 
 same-length : tie.Need-same-length

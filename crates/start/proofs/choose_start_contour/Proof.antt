@@ -16,25 +16,25 @@ use Rattle.start.proofs.choose_start_contour.Statement.{statement}
 use Rattle.start.proofs.choose_start_contour.Tie as tie
 
 abbrev Inv-loop : tie.InvT-loop
-Inv-loop points lengths layers width height strategy center lead₀ first₀ i₀ lead first i =
+Inv-loop points lengths layers width height strategy from lead₀ first₀ i₀ lead first i =
     (i ≤ length lengths)
     × LeadIn (length layers) lead
     × (first + sum (drop i lengths) ≡ sum lengths)
     × (let p = plate points lengths layers width height strategy in
-    led p center strategy (leadOf lead) (contoursFrom i first (drop i lengths)) ≡ start p)
+    led p from strategy (leadOf lead) (contoursFrom i first (drop i lengths)) ≡ start p)
 
 abbrev μ-loop : tie.MeasureT-loop
-μ-loop points lengths layers width height strategy center lead₀ first₀ i₀ lead first i = length lengths - i
+μ-loop points lengths layers width height strategy from lead₀ first₀ i₀ lead first i = length lengths - i
 
-image-center-requires : tie.Need-image-center-requires Inv-loop μ-loop
-image-center-requires c κs = search needs
+measured-from-requires : tie.Need-measured-from-requires Inv-loop μ-loop
+measured-from-requires c κs = search needs
 
 loop-holds : tie.Need-loop-holds Inv-loop μ-loop
 unfolding plate leadOf
 loop-holds c =
     let a = c .before .before .before .before .args in
     let p = plate (a .points .now) (a .lengths .now) (a .layers .now) (a .width) (a .height) (a .strategy) in
-    (omega arith, tt, omega arith, ap (λ (q : Point). led p q (a .strategy) none (contoursFrom 0 0 (a .lengths .now))) (c .image-center .ensures) ∙ sym (led-start p))
+    (omega arith, tt, omega arith, ap (λ (q : Point). led p q (a .strategy) none (contoursFrom 0 0 (a .lengths .now))) (c .measured-from .ensures) ∙ sym (led-start p))
 
 mul-size : tie.Need-mul-size Inv-loop μ-loop
 mul-size c = search needs
@@ -90,7 +90,7 @@ choose-start-contour-spec =
     (tie.spec
     Inv-loop
     μ-loop
-    image-center-requires
+    measured-from-requires
     loop-holds
     mul-size
     shared-slice-read-size

@@ -1,5 +1,5 @@
 -- `start::start_call` meets its contract. Assumes nothing.
-use mathlib.Core.Path.{_≡_, sym, ap, _∙_}
+use mathlib.Core.Path.{sym, ap, _∙_}
 use Rattle.rules.specs.HandedOver.{plate, numberOf, placeOf, refusal, inputRows, startAnswer}
 use Rattle.rules.specs.Calls.{startOr, startCall}
 use Rattle.path.specs.Rows.{rows-give, rows-pass, refusal-refuses}
@@ -21,7 +21,7 @@ unfolding startAnswer startCall plate checkedAnswer
 returns c =
     let a = c .before .before .before .before .before .before .before .args in
     let e = ap checkedAnswer (sym (c .before .checked .given .1)) ∙ c .before .before .before .check .ensures in
-    refusal-refuses (inputRows (a .points .now) (a .lengths .now) (a .layers .now)) _ _ _ e
+    refusal-refuses (inputRows (a .points .now) (a .lengths .now) (a .layers .now) (a .strategy)) _ _ _ e
 
 enum-told : tie.Need-enum-told
 enum-told c = search needs
@@ -31,7 +31,7 @@ unfolding checkedAnswer
 choose-start-contour-requires c κs =
     let a = c .before .before .before .before .before .before .args in
     let e = ap checkedAnswer (sym (c .enum-told .given .1)) ∙ c .before .before .check .ensures in
-    let g = input-gives (a .points .now) (a .lengths .now) (a .layers .now) _ _ (sym e) in
+    let g = input-gives (a .points .now) (a .lengths .now) (a .layers .now) (a .strategy) _ _ (sym e) in
     (g .0, g .1 .counted)
 
 enum-known-lead : tie.Need-enum-known-lead
@@ -46,7 +46,7 @@ returns-2 c =
     let a = c .before .before .before .before .before .before .before .before .before .args in
     let e = ap checkedAnswer (sym (c .before .before .before .enum-told .given .1)) ∙ c .before .before .before .before .before .check .ensures in
     let l = ap leadOf (sym (c .enum-told2 .given .1)) ∙ c .before .before .choose-start-contour .ensures in
-    ap startOr l ∙ sym (rows-pass (inputRows (a .points .now) (a .lengths .now) (a .layers .now)) (rows-give _ _ _ (sym e) .0) _)
+    ap startOr l ∙ sym (rows-pass (inputRows (a .points .now) (a .lengths .now) (a .layers .now) (a .strategy)) (rows-give _ _ _ (sym e) .0) _)
 
 returns-3 : tie.Need-returns-3
 unfolding startAnswer startCall plate checkedAnswer startOr leadOf orientedOf contourOf
@@ -54,7 +54,7 @@ returns-3 c =
     let a = c .before .before .before .before .before .before .before .before .before .before .args in
     let e = ap checkedAnswer (sym (c .before .before .before .before .enum-told .given .1)) ∙ c .before .before .before .before .before .before .check .ensures in
     let l = ap leadOf (sym (c .before .lead .given .1)) ∙ c .before .before .before .choose-start-contour .ensures in
-    ap startOr l ∙ sym (rows-pass (inputRows (a .points .now) (a .lengths .now) (a .layers .now)) (rows-give _ _ _ (sym e) .0) _)
+    ap startOr l ∙ sym (rows-pass (inputRows (a .points .now) (a .lengths .now) (a .layers .now) (a .strategy)) (rows-give _ _ _ (sym e) .0) _)
 
 pub start-call-spec : {M : Type 1} → statement M
 start-call-spec =

@@ -25,14 +25,14 @@ handed s = plate (s .args .points .now) (s .args .lengths .now) (s .args .layers
 -- a plate that passed the checks
 sound : (c : tie.After-enum-told) →
     let a = c .before .before .before .before .before .before .before .before .args in
-    refusedBy (inputRows (a .points .now) (a .lengths .now) (a .layers .now)) (gives (sum (a .lengths .now))) ≡ gives (c .enum-told .given .0 .0)
+    refusedBy (inputRows (a .points .now) (a .lengths .now) (a .layers .now) (a .strategy)) (gives (sum (a .lengths .now))) ≡ gives (c .enum-told .given .0 .0)
 unfolding checkedAnswer
 sound c = sym (ap checkedAnswer (sym (c .enum-told .given .1)) ∙ c .before .before .check .ensures)
 
 accepted : (c : tie.After-enum-told) →
     let a = c .before .before .before .before .before .before .before .before .args in
     Accepted (a .points .now) (a .lengths .now) × Layered (length (a .lengths .now)) (a .layers .now)
-accepted c = let g = input-gives _ _ _ _ _ (sound c) in (g .0, g .1)
+accepted c = let g = input-gives _ _ _ _ _ _ (sound c) in (g .0, g .1)
 
 -- the path has as many points as the plate
 points-are : (c : tie.After-enum-told) →

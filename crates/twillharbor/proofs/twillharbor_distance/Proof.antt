@@ -1,5 +1,5 @@
 -- `twillharbor::twillharbor_distance` meets its contract. Assumes nothing.
-use mathlib.Core.Path.{_≡_, sym, ap, _∙_}
+use mathlib.Core.Path.{sym, ap, _∙_}
 use lib.Ieee.{ofBits}
 use Rattle.rules.specs.HandedOver.{distanceAnswer}
 use Rattle.twillharbor.specs.Results.{distanceResult, pointOf}

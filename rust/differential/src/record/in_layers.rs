@@ -146,7 +146,7 @@ mod tests {
             (13, 1),
         ];
         for (place, (plate, due)) in refused().iter().zip(due).enumerate() {
-            assert_eq!(checked(plate), Err(due), "row {place}");
+            assert_eq!(checked(plate, Inside), Err(due), "row {place}");
         }
     }
 

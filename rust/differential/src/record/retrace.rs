@@ -2,9 +2,10 @@
 //!
 //! A row is, in this order:
 //!
-//! - ten words: the number of coordinates, the number of contours, the number of layers, width,
-//!   height, 1 for Inside and 0 for Outside, and the lengths of the path slice, of the marks
-//!   slice, of the u32 work slice and of the f64 work slice;
+//! - twelve words: the number of coordinates, the number of contours, the number of layers, width,
+//!   height, the strategy (0 for Outside, 1 for Inside and 2 for Home), the lengths of the path
+//!   slice, of the marks slice, of the u32 work slice and of the f64 work slice, and the parked
+//!   point's x and y, which are 0 but for Home;
 //! - the coordinates; the contours' lengths; the layers;
 //! - seven words: the call's number, place, points, cuts, back-steps, jumps and touches;
 //! - the whole path slice as the call leaves it, where every element was [`PATH_FILL`];
@@ -19,17 +20,18 @@
 //! `rule`. A refusal and the counts are the documents' rule.
 
 use harness::random::Random;
-use twillharbor::Size;
-use twillharbor::StartPointStrategy::{self, Inside, Outside};
+use twillharbor::StartPointStrategy::{self, Home, Inside, Outside};
+use twillharbor::{Point, Size};
 
 use super::{
-    PATH_FILL, Words, damaged_copy, fits, fitting_damages, in_layers, plate_of, refused_plates,
-    touching, write_plate,
+    PATH_FILL, Words, damaged_copy, fits, fitting_damages, home, in_layers, plate_of,
+    refused_plates, touching, write_plate,
 };
 use crate::layers;
 use crate::lent::Number;
 use crate::meeting::MEETINGS;
-use crate::plates::{Plate, small_plate};
+use crate::parked;
+use crate::plates::{self, Plate, small_plate};
 use crate::reference::retrace;
 use crate::retrace_plates::{KINDS, Kind, plate};
 use crate::rule::{self, Refused, Retrace};
@@ -63,7 +65,8 @@ struct Row {
 /// plates whose contours meet, plates that are refused, plates that document 02's layers decide,
 /// then two of each kind of plate but those of `passed_over`, in layers, but one of each kind whose
 /// contours meet (more would not fit the replaying program's room), the same number of each damage,
-/// and one plate by hand on which the search passes over a nearer point.
+/// and one plate by hand on which the search passes over a nearer point. Then come the rows of Home:
+/// plates that the parked point decides, and one of each kind of `plates`.
 pub fn retraces() -> String {
     let rows = rows();
     let mut words = Words::default();
@@ -83,7 +86,36 @@ fn rows() -> Vec<Row> {
     rows.extend(damaged_rows(random));
     let points = points_of(&passed_over(), Inside);
     rows.push(fitted(passed_over(), Inside, 2 * points, 2 * points));
+    rows.extend(home_rows());
     rows
+}
+
+/// Rows with parked points.
+fn home_rows() -> Vec<Row> {
+    let (random, of_layers) = (&mut Random::new(24), &mut Random::new(25));
+    let mut rows = Vec::new();
+    for (plate, point) in home::sound() {
+        rows.push(row(plate, Home(point), 0, random));
+    }
+    for (turn, (plate, point)) in home::refused().into_iter().enumerate() {
+        rows.push(row(plate, Home(point), turn, random));
+    }
+    for (turn, (kind, _)) in plates::KINDS.into_iter().enumerate() {
+        let (plate, point) = fitting_home(kind, of_layers, random);
+        rows.push(row(plate, Home(point), turn, random));
+    }
+    rows
+}
+
+/// A plate of the kind, in layers, and a parked point, with a path that fits in a row.
+fn fitting_home(kind: plates::Kind, of_layers: &mut Random, random: &mut Random) -> (Plate, Point) {
+    loop {
+        let plate = layers::in_layers(small_plate(kind, random), of_layers);
+        let point = parked::on_the_plate(&plate, random);
+        if worked_out(&plate, Home(point)).is_ok_and(|due| due.whole && due.marks.len() >= 4) {
+            return (plate, point);
+        }
+    }
 }
 
 /// The jump comes from (7.8,3.9), though (11.7,0) is nearer: it lies in the ring whose bound ends
@@ -447,17 +479,18 @@ mod tests {
         let mut words = words(&text).into_iter();
         let mut next = || words.next().expect("the row has another word");
         let rows = next();
-        assert!((180..=220).contains(&rows), "{rows} rows");
+        assert!((280..=320).contains(&rows), "{rows} rows");
         let (mut numbers, mut places, mut touching) = ([0; 14], [0; 2], [0; 3]);
+        let mut of_home = [0; 14];
         for _ in 0..rows {
             let [coordinates, contours, layers] = [(); 3].map(|()| next() as usize);
             let [width, height] = [(); 2].map(|()| u32::try_from(next()).unwrap());
-            let inside = match next() {
-                0 => false,
-                1 => true,
-                other => panic!("strategy {other}"),
-            };
+            let strategy = next();
+            assert!(strategy <= 2, "strategy {strategy}");
+            let (home, inside) = (strategy == 2, strategy == 1);
             let [path, marks, work, distances] = [(); 4].map(|()| next() as usize);
+            let [x, y] = [(); 2].map(|()| f64::from_bits(next()));
+            assert!(home || [x, y].map(f64::to_bits) == [0, 0]);
             assert!(coordinates <= MOST_COORDINATES && contours <= MOST_LENGTHS);
             assert!(layers <= MOST_LAYERS);
             assert!(path.max(marks) <= MOST_ELEMENTS);
@@ -469,18 +502,32 @@ mod tests {
             let mut path = vec![PATH_FILL; path];
             let mut marks = vec![MARKS_FILL; marks];
             let (mut work, mut distances) = (vec![7; work], vec![9.0; distances]);
-            let r = c::retrace(
-                &points,
-                &lengths,
-                &layers,
-                width,
-                height,
-                inside,
-                &mut path,
-                &mut marks,
-                &mut work,
-                &mut distances,
-            );
+            let r = if home {
+                c::retrace_home(
+                    &points,
+                    &lengths,
+                    &layers,
+                    x,
+                    y,
+                    &mut path,
+                    &mut marks,
+                    &mut work,
+                    &mut distances,
+                )
+            } else {
+                c::retrace(
+                    &points,
+                    &lengths,
+                    &layers,
+                    width,
+                    height,
+                    inside,
+                    &mut path,
+                    &mut marks,
+                    &mut work,
+                    &mut distances,
+                )
+            };
             let answer = [r.number, r.place, r.points, r.cuts, r.back_steps, r.jumps, r.touches];
             assert_eq!(answer.map(u64::from), [(); 7].map(|()| next()));
             path.iter().for_each(|&x| assert_eq!(x.to_bits(), next()));
@@ -489,6 +536,7 @@ mod tests {
                 assert!(work.iter().all(|&n| n == 7) && distances.iter().all(|&x| x == 9.0));
             }
             numbers[r.number as usize] += 1;
+            of_home[r.number as usize] += u32::from(home);
             if r.number == 5 {
                 places[r.place as usize] += 1;
             }
@@ -502,6 +550,8 @@ mod tests {
         assert!([0, 2, 3, 13, 4, 5, 6].iter().all(|&n| numbers[n] >= 4), "{numbers:?}");
         assert!(places.iter().all(|&rows| rows >= 4), "{places:?}");
         assert!(numbers[0] >= 60 && numbers[6] >= 25, "{numbers:?}");
+        assert!(of_home[0] >= 40 && of_home[4] >= 12, "{of_home:?}");
+        assert!([2, 3, 13, 5, 6].iter().all(|&number| of_home[number] > 0), "{of_home:?}");
         // Touches, touches beside jumps, and paths that are cut off after a touch.
         let [touches, beside_jumps, cut_off] = touching;
         assert!(touches >= 30 && beside_jumps >= 10 && cut_off >= 2, "{touching:?}");

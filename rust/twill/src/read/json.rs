@@ -1,6 +1,6 @@
 //! JSON: an array of contours, each an array of points, each `[x, y]` or `{"x": x, "y": y}`; or
-//! an object with such an array as `contours`, and perhaps `width`, `height`, `start`, and
-//! `layers` with a number for each contour.
+//! an object with such an array as `contours`, and perhaps `width`, `height`, `start`, with
+//! "home" as start the point `home`, and `layers` with a number for each contour.
 //!
 //! A coordinate may also be a string with a number of the text form, as `"0x1.8p3"`, and the
 //! words NaN, Infinity and -Infinity are read, which some programs write.
@@ -8,7 +8,7 @@
 use super::{Drawing, excerpt};
 use crate::number;
 use crate::plate::{self, Layer, Plate, Remark};
-use twillharbor::HIGHEST_LAYER;
+use twillharbor::{HIGHEST_LAYER, Point, StartPointStrategy};
 
 pub fn read(text: &str) -> Result<Plate, Remark> {
     let mut reader = Reader { text, at: 0, plate: Plate::default() };
@@ -66,10 +66,16 @@ struct Reader<'a> {
     plate: Plate,
 }
 
+/// A point, and the byte of the text at which it stands.
+struct Located {
+    byte: usize,
+    at: Point,
+}
+
 impl<'a> Reader<'a> {
     fn whole_plate(&mut self) -> Result<(), Remark> {
         let mut has_contours = false;
-        let mut layers = None;
+        let (mut start, mut home, mut layers) = (None, None, None);
         let mut keys: Vec<String> = Vec::new();
         self.members(|reader, key, byte| {
             if keys.contains(&key) {
@@ -78,7 +84,8 @@ impl<'a> Reader<'a> {
             match key.as_str() {
                 "width" => reader.plate.width = Some(reader.whole(&key, u32::MAX)?),
                 "height" => reader.plate.height = Some(reader.whole(&key, u32::MAX)?),
-                "start" => reader.start()?,
+                "start" => start = Some((byte, reader.start()?)),
+                "home" => home = Some((byte, reader.coordinates()?)),
                 "layers" => {
                     reader.plate.layers_byte = Some(byte);
                     layers = Some(reader.layers()?);
@@ -89,7 +96,7 @@ impl<'a> Reader<'a> {
                 }
                 _ => {
                     let message = format!(
-                        "`{}` is none of the keys contours, layers, width, height and start",
+                        "`{}` is none of the keys contours, layers, width, height, start and home",
                         excerpt(&key)
                     );
                     return Err(Remark::new(byte, message));
@@ -98,6 +105,7 @@ impl<'a> Reader<'a> {
             keys.push(key);
             Ok(())
         })?;
+        self.set_strategy(start, home)?;
         // Whether they are as many as the contours is for the library to say.
         if let Some(layers) = layers {
             self.plate.layers = layers;
@@ -113,6 +121,12 @@ impl<'a> Reader<'a> {
     }
 
     fn point(&mut self) -> Result<(), Remark> {
+        let Located { byte, at } = self.coordinates()?;
+        self.plate.push(at.x, at.y, byte);
+        Ok(())
+    }
+
+    fn coordinates(&mut self) -> Result<Located, Remark> {
         let is_object = self.peek() == Some(b'{');
         let byte = self.at;
         let (mut x, mut y) = (None, None);
@@ -146,10 +160,9 @@ impl<'a> Reader<'a> {
             }
         }
         match (x, y) {
-            (Some(x), Some(y)) => self.plate.push(x, y, byte),
-            _ => return Err(Remark::new(byte, "a point has two numbers, x and y")),
+            (Some(x), Some(y)) => Ok(Located { byte, at: Point { x, y } }),
+            _ => Err(Remark::new(byte, "a point has two numbers, x and y")),
         }
-        Ok(())
     }
 
     fn coordinate(&mut self) -> Result<f64, Remark> {
@@ -229,19 +242,44 @@ impl<'a> Reader<'a> {
         }
     }
 
-    fn start(&mut self) -> Result<(), Remark> {
+    /// The strategy; none where it is "home", whose point stands by itself.
+    fn start(&mut self) -> Result<Option<StartPointStrategy>, Remark> {
         self.peek();
         let byte = self.at;
         let word = self.string()?;
-        self.plate.strategy = plate::strategy(&word);
-        match self.plate.strategy {
-            Some(_) => Ok(()),
-            None => {
-                let message =
-                    format!("expected \"inside\" or \"outside\", not `{}`", excerpt(&word));
+        match plate::strategy(&word) {
+            None if word != "home" => {
+                let message = format!(
+                    "expected \"inside\", \"outside\" or \"home\", not `{}`",
+                    excerpt(&word)
+                );
                 Err(Remark::new(byte, message))
             }
+            strategy => Ok(strategy),
         }
+    }
+
+    /// The start and the parked point, each with its key's place: "home" and a point go together.
+    fn set_strategy(
+        &mut self,
+        start: Option<(usize, Option<StartPointStrategy>)>,
+        home: Option<(usize, Located)>,
+    ) -> Result<(), Remark> {
+        self.plate.strategy = match (start, home) {
+            (None, None) => None,
+            (Some((_, Some(strategy))), None) => Some(strategy),
+            (Some((_, None)), Some((_, Located { byte, at }))) => {
+                self.plate.home_byte = Some(byte);
+                Some(StartPointStrategy::Home(at))
+            }
+            (Some((byte, None)), None) => {
+                return Err(Remark::new(byte, "`start` is \"home\", but there is no `home`"));
+            }
+            (_, Some((byte, _))) => {
+                return Err(Remark::new(byte, "there is a `home`, but `start` is not \"home\""));
+            }
+        };
+        Ok(())
     }
 
     /// An array, of which `element` reads each element.
@@ -405,6 +443,23 @@ mod tests {
     }
 
     #[test]
+    fn a_parked_point_stands_beside_the_start() {
+        for (text, x, y) in [
+            (r#"{"start":"home","home":[12,-0.0],"contours":[]}"#, 12.0, -0.0),
+            (r#"{"home": {"y":0.5,"x":"0x1p-3"},"contours":[],"start":"home"}"#, 0.125, 0.5),
+            (r#"{"contours":[],"home":[1e6,NaN],"start":"home"}"#, 1e6, f64::NAN),
+        ] {
+            let plate = read(text).unwrap();
+            let Some(StartPointStrategy::Home(home)) = plate.strategy else { panic!("{text}") };
+            assert_eq!([home.x, home.y].map(f64::to_bits), [x, y].map(f64::to_bits), "{text}");
+            let stands = plate.home_byte.unwrap();
+            assert!(text[..stands].trim_end().ends_with("\"home\":"), "{text}");
+            assert_eq!((plate.points.len(), plate.lengths.len()), (0, 0));
+        }
+        assert_eq!(read(r#"{"start":"outside","contours":[]}"#).unwrap().home_byte, None);
+    }
+
+    #[test]
     fn layers_stand_beside_the_contours() {
         let text = r#"{"layers": [0, 16,4294967295], "contours": [[[0,0]], [], [[1,0]]]}"#;
         let plate = read(text).unwrap();
@@ -483,7 +538,7 @@ mod tests {
             (
                 "{\"contour\":[]}",
                 1,
-                "`contour` is none of the keys contours, layers, width, height and start",
+                "`contour` is none of the keys contours, layers, width, height, start and home",
             ),
             ("{\"layers\":[1.5]}", 11, "expected as layer a whole number from 0 to 15, not `1.5`"),
             ("{\"layers\":[-1]}", 11, "expected as layer a whole number from 0 to 15, not `-1`"),
@@ -496,7 +551,18 @@ mod tests {
                 9,
                 "expected as width a whole number from 0 to 4294967295, not `1.5`",
             ),
-            ("{\"start\":\"in\"}", 9, "expected \"inside\" or \"outside\", not `in`"),
+            ("{\"start\":\"in\"}", 9, "expected \"inside\", \"outside\" or \"home\", not `in`"),
+            ("{\"start\":\"home\"}", 1, "`start` is \"home\", but there is no `home`"),
+            ("{\"home\":[1,2]}", 1, "there is a `home`, but `start` is not \"home\""),
+            (
+                "{\"start\":\"inside\",\"home\":[1,2]}",
+                18,
+                "there is a `home`, but `start` is not \"home\"",
+            ),
+            ("{\"home\":[1]}", 8, "a point has two numbers, x and y"),
+            ("{\"home\":[1,2,3]}", 8, "a point has two numbers, not 3"),
+            ("{\"home\":12}", 8, "expected a point, [x, y], not `12`"),
+            ("{\"home\":[1,2],\"home\":[1,2]}", 14, "`home` is given twice"),
             ("{\"start", 1, "the string is not closed on its line"),
         ];
         for (text, byte, message) in cases {

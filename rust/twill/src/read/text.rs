@@ -1,14 +1,14 @@
 //! The plain text form.
 //!
 //! A line holds a point, `x y` or `x,y`, or points in brackets, `(x,y)(x,y)`. Blank lines and `|`
-//! end a contour. The word `empty` is a contour without a point, `size W H` and `start inside` or
-//! `start outside` give the plate's size and strategy, `layer N` the layer of the contours from
-//! there on, and `#` begins a comment.
+//! end a contour. The word `empty` is a contour without a point, `size W H` and `start inside`,
+//! `start outside` or `start home X Y` give the plate's size and strategy, `layer N` the layer of
+//! the contours from there on, and `#` begins a comment.
 
 use super::excerpt;
 use crate::number;
 use crate::plate::{Layer, Plate, Remark};
-use twillharbor::{HIGHEST_LAYER, StartPointStrategy};
+use twillharbor::{HIGHEST_LAYER, Point, StartPointStrategy};
 
 pub fn read(text: &str) -> Result<Plate, Remark> {
     let mut reader = Reader { text, at: 0, plate: Plate::default(), apart: true };
@@ -181,13 +181,27 @@ impl<'a> Reader<'a> {
     fn strategy(&mut self) -> Result<StartPointStrategy, Remark> {
         self.skip_blanks();
         let word = self.word();
-        match crate::plate::strategy(word) {
-            Some(strategy) => {
-                self.at += word.len();
-                Ok(strategy)
-            }
-            None => Err(self.expected("`inside` or `outside`")),
+        let strategy = crate::plate::strategy(word);
+        if strategy.is_none() && word != "home" {
+            return Err(self.expected("`inside`, `outside` or `home`"));
         }
+        self.at += word.len();
+        match strategy {
+            Some(strategy) => Ok(strategy),
+            None => self.home().map(StartPointStrategy::Home),
+        }
+    }
+
+    /// The parked point, in brackets or not.
+    fn home(&mut self) -> Result<Point, Remark> {
+        self.skip_blanks();
+        self.plate.home_byte = Some(self.at);
+        let is_bracketed = self.take('(');
+        let (x, y) = self.coordinates()?;
+        if is_bracketed && !self.take(')') {
+            return Err(self.expected("`)`"));
+        }
+        Ok(Point { x, y })
     }
 
     fn peek(&self) -> Option<char> {
@@ -277,6 +291,23 @@ mod tests {
     }
 
     #[test]
+    fn a_parked_point_stands_with_the_start() {
+        for (text, x, y) in [
+            ("start home 12 0.5\n1 2\n", 12.0, 0.5),
+            ("1 2\nstart  home -5,3 # parked\n", -5.0, 3.0),
+            ("start home (0x1p-1074, -0)", 5e-324, -0.0),
+            ("start home\t( 1e6 -inf )\n", 1e6, f64::NEG_INFINITY),
+        ] {
+            let plate = read(text).unwrap();
+            let Some(StartPointStrategy::Home(home)) = plate.strategy else { panic!("{text}") };
+            assert_eq!([home.x, home.y].map(f64::to_bits), [x, y].map(f64::to_bits), "{text}");
+            let stands = text.find("home").unwrap() + "home".len() + 1;
+            assert_eq!(plate.home_byte, Some(stands), "{text}");
+        }
+        assert_eq!(read("start inside\n").unwrap().home_byte, None);
+    }
+
+    #[test]
     fn layers_hold_from_their_line_on() {
         let plate = read(
             "0 0\n1 0\nlayer 3\n2 0\n\nempty\nlayer 0 # again\n(3,0) | (4,0)\n\
@@ -331,7 +362,13 @@ mod tests {
             ("size 3 +4", 7, "expected as height a whole number from 0 to 4294967295, not `+4`"),
             ("size 1 2\nsize 1 2", 9, "the size is given twice"),
             ("size 1 2 3", 9, "expected the end of the line, not `3`"),
-            ("start in", 6, "expected `inside` or `outside`, not `in`"),
+            ("start in", 6, "expected `inside`, `outside` or `home`, not `in`"),
+            ("start home", 10, "expected a number as x, not the end of the file"),
+            ("start home 1\n2 3", 12, "expected a number as y, not the end of the line"),
+            ("start home 1 2 3", 15, "expected the end of the line, not `3`"),
+            ("start home (1,2", 15, "expected `)`, not the end of the file"),
+            ("start home (1,2)(3,4)", 16, "expected the end of the line, not `(`"),
+            ("start home 1 2\nstart inside", 15, "the start is given twice"),
             ("layer -1", 6, "expected as layer a whole number from 0 to 15, not `-1`"),
             (
                 "layer 4294967296",

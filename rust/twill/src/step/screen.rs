@@ -346,7 +346,7 @@ mod tests {
     use crate::number::show;
     use crate::step::keys::Key;
     use crate::step::state::State;
-    use crate::tell::tests::{joined, plate_e, touching};
+    use crate::tell::tests::{joined, parked, plate_e, touching};
     use std::collections::BTreeSet;
 
     fn shown(state: &State, rows: usize, columns: usize) -> Vec<String> {
@@ -406,6 +406,23 @@ mod tests {
         let signs: BTreeSet<char> = (0..=5).map(|n| sign(plate.kind(n))).collect();
         let colours: BTreeSet<&str> = (0..=5).map(|n| colour(&state, n)).collect();
         assert_eq!((signs.len(), colours.len()), (5, 5), "{signs:?} {colours:?}");
+    }
+
+    #[test]
+    fn a_screen_shows_the_parked_point() {
+        let plate = parked(&[&[(0.0, 0.0), (4.0, 0.0)], &[(4.0, 1.0)]], &[0, 0], (7.0, -4.0));
+        let mut state = State::new(&plate, "parked");
+        for (current, row) in [
+            (0, "home       parked at (7,-4), length 5"),
+            (1, "home       parked at (7,-4)"),
+            (3, "home       parked at (7,-4)"),
+        ] {
+            state.current = current;
+            let rows = shown(&state, 24, 80);
+            assert!(rows.iter().any(|shown| shown == row), "{row} is not in {rows:#?}");
+            let start = "0 o start     (4,0) on contour 0 vertex 1 home (7,-4)";
+            assert!(rows.iter().any(|shown| shown.ends_with(start)), "{rows:#?}");
+        }
     }
 
     #[test]

@@ -405,8 +405,8 @@ class Picture {
   }
 }
 
-/** The plate's corners and its centre, which decides on the start. They are no lines that could
- *  be taken for grooves to come. */
+/** The plate's corners and its centre, which decides on the start unless there is a parked point.
+ *  They are no lines that could be taken for grooves to come. */
 function drawPlate(target, v) {
   const [left, top] = [acrossOf(v, 0), downOf(v, 0)];
   const [right, bottom] = [acrossOf(v, data.width), downOf(v, data.height)];
@@ -424,8 +424,57 @@ function drawPlate(target, v) {
     arms(left, bottom, [1], [-1]);
     arms(right, bottom, [-1], [-1]);
   }
-  arms((left + right) / 2, (top + bottom) / 2, [-1, 1], [-1, 1]);
+  if (!home) arms((left + right) / 2, (top + bottom) / 2, [-1, 1], [-1, 1]);
   target.stroke();
+}
+
+// ---- The parked point. It is drawn in each frame over what is engraved, which may begin on it.
+
+/** The parked point with its coordinates; where it is out of sight, an arrow at the side points to it. */
+function drawHome() {
+  const x = acrossOf(view, home[0]), y = downOf(view, home[1]);
+  const { side, top } = margins(view.width, view.height), reach = side / 2;
+  const isWithin = (at, size) => at >= reach && at <= size - reach;
+  const isSeen = isWithin(x, view.width) && isWithin(y, view.height);
+  const px = isSeen ? x : Math.min(Math.max(x, reach), view.width - reach);
+  const py = isSeen ? y : Math.min(Math.max(y, top), view.height - reach);
+  if (isSeen) drawParked(x, y); else drawPointer(px, py, x - px, y - py);
+  drawLabel(`parked at ${pointText(home)}`, px, py);
+}
+
+/** A square, which is wider than the start's ring, around a dot. */
+function drawParked(x, y) {
+  const half = 12 * ratio;
+  for (const [colour, width] of [[SHEET, 5.5], [FRAME, 2.4]]) {
+    pen(context, colour, width * ratio);
+    context.strokeRect(x - half, y - half, 2 * half, 2 * half);
+  }
+  context.beginPath();
+  dot(context, x, y, 2.5 * ratio);
+  context.fill();
+}
+
+/** An arrow's head that points from a place along a direction. */
+function drawPointer(x, y, dx, dy) {
+  const length = Math.hypot(dx, dy), [ux, uy] = [dx / length, dy / length];
+  pen(context, SHEET, 5 * ratio);
+  context.beginPath();
+  arrowHead(context, x + ux * 10 * ratio, y + uy * 10 * ratio, ux, uy, 18 * ratio);
+  context.stroke();
+  context.fillStyle = FRAME;
+  context.fill();
+}
+
+/** A text beside a sign, on the side that has room for it. */
+function drawLabel(text, x, y) {
+  context.font = `${14 * ratio}px system-ui, sans-serif`;
+  context.textBaseline = "middle";
+  const wide = context.measureText(text).width, gap = 20 * ratio;
+  const left = x + gap + wide <= view.width ? x + gap : Math.max(x - gap - wide, 0);
+  pen(context, SHEET, 4 * ratio);
+  context.strokeText(text, left, y);
+  context.fillStyle = EDGE;
+  context.fillText(text, left, y);
 }
 
 // ---- Touches. They are drawn in each frame over what is engraved: the grooves that meet there, of

@@ -56,6 +56,7 @@ function compose() {
     context.setTransform(1, 0, 0, 1, 0, 0);
     drawTouches(shown);
   }
+  if (home) drawHome();
   if (points) drawStart();
   drawCurrent();
 }
@@ -520,13 +521,16 @@ function describe() {
   const held = data.contours.filter((length) => length > 0).length;
   const empty = data.contours.length - held;
   const counted = (number, word) => `${grouped(number)} ${word}${number === 1 ? "" : "s"}`;
-  element("terms").textContent = `${data.width} by ${data.height}, start ${data.start}, `
+  const start = home ? `home ${pointText(home)}` : data.start;
+  element("terms").textContent = `${data.width} by ${data.height}, start ${start}, `
     + `${counted(held, "contour")}${empty ? ` and ${grouped(empty)} empty` : ""}, ${counted(points, "path point")}`;
   element("total-cuts").textContent = grouped(data.cuts);
   element("total-back-steps").textContent = grouped(data.back_steps);
   element("total-jumps").textContent = grouped(data.jumps);
   element("total-touches").textContent = grouped(data.touches);
   element("slider").max = Math.max(pairs, 1);
+  element("centre-sign").hidden = home !== null;
+  element("home-sign").hidden = home === null;
 }
 
 function sayNothing() {

@@ -16,6 +16,8 @@ const PALE = "#b9c2cc", FRAME = "#8a6fb0", EDGE = "#333333", HALO = "#f0e442", S
 
 const element = (id) => document.getElementById(id);
 const data = JSON.parse(element("data").textContent);
+/** The parked point; null where the start is told by the centre. */
+const home = data.home ?? null;
 
 // ---- The path: all that is shown of it follows from the data block.
 
@@ -160,12 +162,18 @@ const bounds = (() => {
     top = Math.min(top, path[i + 1]); bottom = Math.max(bottom, path[i + 1]);
   }
   if (!points) return { left: 0, top: 0, right: data.width || 1, bottom: data.height || 1 };
-  // The plate's own rectangle is shown too, unless the contours would become small by it.
-  const outer = {
-    left: Math.min(left, 0), top: Math.min(top, 0),
-    right: Math.max(right, data.width), bottom: Math.max(bottom, data.height),
-  };
+  // The plate's own rectangle and the parked point are shown too, unless the contours would become
+  // small by it.
   const size = Math.max(right - left, bottom - top);
-  const isNear = !size || Math.max(outer.right - outer.left, outer.bottom - outer.top) <= 2 * size;
-  return isNear && data.width && data.height ? outer : { left, top, right, bottom };
+  const widened = (box, x0, y0, x1, y1) => {
+    const outer = {
+      left: Math.min(box.left, x0), top: Math.min(box.top, y0),
+      right: Math.max(box.right, x1), bottom: Math.max(box.bottom, y1),
+    };
+    const isNear = !size || Math.max(outer.right - outer.left, outer.bottom - outer.top) <= 2 * size;
+    return isNear ? outer : box;
+  };
+  let box = { left, top, right, bottom };
+  if (data.width && data.height) box = widened(box, 0, 0, data.width, data.height);
+  return home ? widened(box, ...home, ...home) : box;
 })();

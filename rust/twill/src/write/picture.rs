@@ -1,11 +1,11 @@
 //! Pictures in SVG. The four kinds of pair differ without colour too: a cut is a thin line, a
 //! groove that is gone back over has a wide pale band under it, a jump is a dashed arrow, and a touch
-//! a lozenge. Layers differ in colour and dashes, and each is a group with its name as title. The
-//! colours are those of the page.
+//! a lozenge. Layers differ in colour and dashes, and each is a group with its name as title. A
+//! parked point is a square around a dot. The colours are those of the page.
 
 use crate::joined::Joined;
 use crate::number::show;
-use crate::plate::Handed;
+use crate::plate::{self, Handed};
 use crate::words;
 use std::collections::{BTreeMap, BTreeSet};
 use std::fmt::Write;
@@ -15,6 +15,7 @@ const CUT: &str = "#111111";
 const BACK_STEP: &str = "#d55e00";
 const JUMP: &str = "#0072b2";
 const TOUCH: &str = "#5d3a9b";
+const HOME: &str = "#8a6fb0";
 
 /// A layer's dashes are by its number modulo 4, in units; its colour goes on by one after each four,
 /// so that no two of sixteen layers look alike.
@@ -23,6 +24,8 @@ const LAYER_COLOURS: [&str; 4] = [CUT, "#007a53", "#a8327d", "#7a5200"];
 
 /// From a lozenge's middle to its corners, in units.
 const LOZENGE: f64 = 2.3;
+/// The side of a parked point's square, in units.
+const SQUARE: f64 = 10.0;
 
 /// How the lines of one kind are drawn.
 struct Style<'a> {
@@ -44,17 +47,43 @@ struct Frame {
     unit: f64,
 }
 
+/// A rectangle, by the least and the greatest coordinates in it.
+#[derive(Clone, Copy)]
+struct Extent {
+    least: [f64; 2],
+    most: [f64; 2],
+}
+
+impl Extent {
+    /// Around all points.
+    fn of(points: &[[f64; 2]]) -> Self {
+        let Some(&first) = points.first() else { return Self { least: [0.0; 2], most: [1.0; 2] } };
+        points.iter().fold(Self { least: first, most: first }, |extent, &point| extent.with(point))
+    }
+
+    fn with(self, point: [f64; 2]) -> Self {
+        let least = [0, 1].map(|axis| self.least[axis].min(point[axis]));
+        Self { least, most: [0, 1].map(|axis| self.most[axis].max(point[axis])) }
+    }
+
+    /// The longer side.
+    fn side(self) -> f64 {
+        (self.most[0] - self.least[0]).max(self.most[1] - self.least[1])
+    }
+}
+
 impl Frame {
-    /// All points with a margin around them.
-    fn around(points: &[f64]) -> Self {
-        let (points, _) = points.as_chunks::<2>();
-        let least = |axis: usize| points.iter().map(|p| p[axis]).fold(f64::INFINITY, f64::min);
-        let most = |axis: usize| points.iter().map(|p| p[axis]).fold(f64::NEG_INFINITY, f64::max);
-        let (left, top, right, bottom) = match points {
-            [] => (0.0, 0.0, 1.0, 1.0),
-            _ => (least(0), least(1), most(0), most(1)),
-        };
-        let side = (right - left).max(bottom - top).max(1e-3);
+    /// All points with a margin around them, and the parked point too, unless the contours would
+    /// become small by it.
+    fn around(plate: &Handed) -> Self {
+        let mut extent = Extent::of(plate.points.as_chunks().0);
+        if let Some(home) = plate.home() {
+            let wider = extent.with([home.x, home.y]);
+            let is_near = extent.side() == 0.0 || wider.side() <= 2.0 * extent.side();
+            extent = if is_near { wider } else { extent };
+        }
+        let Extent { least: [left, top], most: [right, bottom] } = extent;
+        let side = extent.side().max(1e-3);
         let unit = side / 320.0;
         let margin = 16.0 * unit;
         // Wide enough for the words under the plate.
@@ -168,6 +197,23 @@ impl Frame {
         self.circle(p, 3.5, &stroke)
     }
 
+    /// A square, which is wider than the start's ring, around a dot.
+    fn parked(&self, p: Point) -> String {
+        let side = SQUARE * self.unit;
+        let (x, y) = (show(p.x - side / 2.0), show(p.y - side / 2.0));
+        let (side, width) = (show(side), show(1.2 * self.unit));
+        let square = format!("<rect x=\"{x}\" y=\"{y}\" width=\"{side}\" height=\"{side}\"/>\n");
+        let dot = self.circle(p, 1.2, &format!("fill=\"{HOME}\" stroke=\"none\""));
+        format!(
+            "<g class=\"home\" stroke=\"{HOME}\" stroke-width=\"{width}\">\n{square}{dot}</g>\n"
+        )
+    }
+
+    fn holds(&self, p: Point) -> bool {
+        let (right, bottom) = (self.left + self.width, self.top + self.height);
+        (self.left..=right).contains(&p.x) && (self.top..=bottom).contains(&p.y)
+    }
+
     fn circle(&self, p: Point, radius: f64, style: &str) -> String {
         let radius = show(radius * self.unit);
         format!("<circle cx=\"{}\" cy=\"{}\" r=\"{radius}\" {style}/>\n", show(p.x), show(p.y))
@@ -185,7 +231,7 @@ impl Frame {
 
 /// The path with its cuts, back-steps, jumps, touches and start, and their numbers under it.
 pub fn retrace(joined: &Joined) -> String {
-    let frame = Frame::around(&joined.plate.points);
+    let frame = Frame::around(&joined.plate);
     let mut walked_back = BTreeSet::new();
     let (mut drawn, mut joins) = (dots(&joined.plate), Joins::default());
     for number in 1..=joined.count() {
@@ -210,8 +256,8 @@ pub fn retrace(joined: &Joined) -> String {
     body += &joined.path.start().map_or(String::new(), |(p, _)| frame.ring(p));
     let (legend, above) = legend(&frame, joined);
     body += &legend;
-    let (layers, foot) = layer_legend(&frame, &joined.plate, above);
-    body += &layers;
+    let (terms, foot) = terms_legend(&frame, &joined.plate, above);
+    body += &terms;
     let counts = joined.path.counts();
     frame.picture(&format!("Retraced path: {}", words::counts(counts)), foot, &body)
 }
@@ -234,6 +280,30 @@ const LEGEND_ROW: f64 = 10.0;
 /// side by side.
 const KIND_COLUMN: f64 = 84.0;
 const LAYER_COLUMN: f64 = 170.0;
+
+/// The parked point, on the plate and below it, and the layers, where there are any: below what
+/// stands in so many units under the plate; and the units that are taken then.
+fn terms_legend(frame: &Frame, plate: &Handed, above: f64) -> (String, f64) {
+    let (home, above) = home_legend(frame, plate, above);
+    let (layers, foot) = layer_legend(frame, plate, above);
+    (home + &layers, foot)
+}
+
+/// The parked point's sign with its coordinates; the sign stands on the plate too, if it is in sight.
+fn home_legend(frame: &Frame, plate: &Handed, above: f64) -> (String, f64) {
+    let Some(home) = plate.home() else { return (String::new(), above) };
+    let unit = frame.unit;
+    let y = frame.top + frame.height + (above + 1.0) * unit;
+    let x = frame.left + 7.0 * unit;
+    let (on_plate, beyond) = match frame.holds(home) {
+        true => (frame.parked(home), ""),
+        false => (String::new(), ", out of sight"),
+    };
+    let sample = frame.parked(Point { x: x + 6.5 * unit, y });
+    let words = format!("parked point {}{beyond}", plate::point(home));
+    let text = frame.text(Point { x: x + 16.0 * unit, y: y + 2.4 * unit }, &words);
+    (format!("{on_plate}<g id=\"parked\">\n{sample}{text}</g>\n"), above + LEGEND_ROW)
+}
 
 /// A sample of each layer with its counts, below what stands in so many units under the plate; and
 /// the units that are taken then.
@@ -300,7 +370,7 @@ fn sample(frame: &Frame, kind: &str, from: Point) -> String {
 
 /// The contours, and what joins each to the next: a line, or a lozenge where they meet.
 pub fn straight(plate: &Handed, entries: &[Entry], path: &[Point]) -> String {
-    let frame = Frame::around(&plate.points);
+    let frame = Frame::around(plate);
     let (mut drawn, mut joins) = (BTreeMap::new(), Joins::default());
     let mut rest = path;
     let mut last: Option<Point> = None;
@@ -317,8 +387,8 @@ pub fn straight(plate: &Handed, entries: &[Entry], path: &[Point]) -> String {
     }
     let mut body = frame.contours(plate, &drawn) + &frame.joins(&joins);
     body += &path.first().map_or(String::new(), |&p| frame.ring(p));
-    let (layers, foot) = layer_legend(&frame, plate, 0.0);
-    body += &layers;
+    let (terms, foot) = terms_legend(&frame, plate, 0.0);
+    body += &terms;
     frame.picture(&format!("Straight path: {}", words::count(path.len(), "point")), foot, &body)
 }
 
@@ -332,7 +402,7 @@ fn add_contour(drawn: &mut BTreeMap<u32, Drawn>, layer: u32, contour: &[Point]) 
 
 /// All contours, and where those of the order begin, numbered from 1.
 pub fn order(plate: &Handed, entries: &[Entry]) -> String {
-    let frame = Frame::around(&plate.points);
+    let frame = Frame::around(plate);
     let contours: Vec<Vec<Point>> = plate.contours().collect();
     let mut drawn = BTreeMap::new();
     for (contour, &layer) in contours.iter().zip(&plate.layers) {
@@ -350,8 +420,8 @@ pub fn order(plate: &Handed, entries: &[Entry]) -> String {
             body += &frame.text(beside, &(place + 1).to_string());
         }
     }
-    let (layers, foot) = layer_legend(&frame, plate, 0.0);
-    body += &layers;
+    let (terms, foot) = terms_legend(&frame, plate, 0.0);
+    body += &terms;
     frame.picture(&format!("Order: {}", words::count(entries.len(), "contour")), foot, &body)
 }
 

@@ -15,10 +15,14 @@ static void print_order(double home_x, double home_y) {
     struct twillharbor_order_result ordered =
         twillharbor_order_home(points, 2 * POINTS, lengths, CONTOURS, layers, CONTOURS, home_x,
                                home_y, order, 2 * CONTOURS, work, CONTOURS);
-    if (ordered.number != 0) {
+    if (ordered.number == TWILLHARBOR_OFF_THE_PLATE) {
         /* The contours are on the plate, so the place is the parked point's. */
-        printf("refusal %" PRIu32 " at place %" PRIu32 ": %s\n", ordered.number, ordered.place,
+        printf("refusal 4 at place %" PRIu32 ": %s\n", ordered.place,
                ordered.place == 0 ? "home_x" : "home_y");
+        return;
+    }
+    if (ordered.number != 0) {
+        printf("refusal %" PRIu32 " at place %" PRIu32 "\n", ordered.number, ordered.place);
         return;
     }
     printf("from (%g,%g)", home_x, home_y);

@@ -23,8 +23,9 @@
  *   3   miscounted          point slice length is not twice that sum; the check call: path
  *                           slice length is odd, or marks slice is not as long
  *   13  bad layer           layer slice length is not M, or a layer is above 15
- *   4   off the plate       a coordinate, the parked point's first, is NaN, infinite or of
- *                           magnitude above 1,000,000 (the distance call: 2,147,483,648)
+ *   4   off the plate       a coordinate is NaN, infinite or of magnitude above 1,000,000
+ *                           (the distance call: 2,147,483,648): of the parked point or,
+ *                           after that, of the points
  *   5   work short          u32 work below C + 4P + 8M + 16,384 or f64 work below M
  *                           (retrace); u32 work below M (order, straight), below P + M
  *                           (check)

@@ -100,7 +100,7 @@ fn layers(layering: Layering, plate: &Plate, random: &mut Random) -> Vec<u32> {
     }
 }
 
-/// The contours that both strategies start with wait for all others.
+/// The contours that Outside and Inside start with wait for all others.
 fn starts_high(plate: &Plate, [low, high]: [u32; 2]) -> Vec<u32> {
     let mut layers = vec![low; plate.lengths.len()];
     for strategy in [Outside, Inside] {

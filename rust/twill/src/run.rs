@@ -84,9 +84,11 @@ fn load(request: &PlateRequest) -> Result<Loaded, Failure> {
         format!("{name}:{}: {}", Position::of(&text, remark.byte), remark.message)
     };
     let mut plate = read::read(&text).map_err(|remark| Failure::file(located(&remark)))?;
-    // Nothing of the file's size holds if both sides are given.
+    let strategy = request.strategy.or(plate.strategy).unwrap_or_default();
+    // Nothing of the file's size holds if both sides are given, and with a parked point no size counts.
     let has_size = request.width.is_some() && request.height.is_some();
-    let notes = plate.notes.iter().filter(|_| !has_size);
+    let is_parked = matches!(strategy, StartPointStrategy::Home(_));
+    let notes = plate.notes.iter().filter(|_| !has_size && !is_parked);
     for note in notes.chain(&plate.layer_notes) {
         output::report(&format!("note: {}", located(note)));
     }
@@ -97,7 +99,6 @@ fn load(request: &PlateRequest) -> Result<Loaded, Failure> {
         width: request.width.or(plate.width).unwrap_or(0),
         height: request.height.or(plate.height).unwrap_or(0),
     };
-    let strategy = request.strategy.or(plate.strategy).unwrap_or_default();
     let home_byte = plate.home_byte.filter(|_| request.strategy.is_none());
     let layers = plate.layers.iter().map(|layer| layer.number).collect();
     let Plate { points, lengths, bytes, layers_byte, .. } = plate;
@@ -230,20 +231,11 @@ fn verify(request: &PlateRequest, loaded: &Loaded) -> Result<(), Failure> {
     let is_accepted = shown.is_some() && at.is_none();
     output::print(&lines)?;
     if let (Some(to), Some(path)) = (&request.output, shown) {
-        let joined = Joined::new(unparked(&loaded.plate), path);
+        let joined = Joined::new(loaded.plate.clone(), path);
         let at = at.map(|_| joined.count() as u32);
         save_page(to, &joined, &page_name(&request.source), at)?;
     }
     if is_accepted { Ok(()) } else { Err(Failure { status: 1, line: None }) }
-}
-
-/// A plate without its parked point: the check of a path does not look at it, so it may be any.
-fn unparked(plate: &Handed) -> Handed {
-    let strategy = match plate.home() {
-        Some(_) => StartPointStrategy::default(),
-        None => plate.strategy,
-    };
-    Handed { strategy, ..plate.clone() }
 }
 
 /// Without `-o` the page is named after the plate, and takes the place of no file but such a

@@ -109,7 +109,9 @@ fn data(joined: &Joined, name: &str, at: Option<u32>) -> String {
         ("marks", array(marks.map(|m| m.to_string()))),
         ("lengths", array(lengths.map(number::json))),
     ];
-    let members = members.into_iter().chain(plate.home().map(home));
+    // A path that is checked may be of a plate whose parked point is no number: nobody tests it then.
+    let parked = plate.home().filter(|home| home.x.is_finite() && home.y.is_finite());
+    let members = members.into_iter().chain(parked.map(home));
     let members = members.chain(plate.is_layered().then(layers));
     // Otherwise they follow from the marks.
     let vertices = || {

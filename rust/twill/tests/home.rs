@@ -256,14 +256,20 @@ fn the_page_has_the_parked_point_and_its_sign() {
 
 /// The check of a path asks nothing of a parked point, and the path need not start near it.
 #[test]
-fn a_verified_path_has_none() {
+fn a_verified_path_may_start_elsewhere() {
     let folder = folder("home-verify");
-    folder.put("home.txt", format!("start home nan 2e6\n{TEXT}"));
     folder.twill("retrace a.txt --home 12,0.5 -o path.txt").done();
-    let told = folder.twill("verify home.txt path.txt -o page.html").done();
-    assert!(told.starts_with("path.txt: accepted: it draws home.txt\n"), "{told}");
-    let page = fs::read_to_string(folder.path("page.html")).unwrap();
-    assert!(!page.contains("\n\"home\":") && !page.contains("\"start\":\"home\""));
+    for (home, written) in [("nan 2e6", None), ("-5 3", Some("\n\"home\":[-5,3]\n"))] {
+        folder.put("home.txt", format!("start home {home}\n{TEXT}"));
+        let told = folder.twill("verify home.txt path.txt -o page.html").done();
+        assert!(told.starts_with("path.txt: accepted: it draws home.txt\n"), "{told}");
+        let page = fs::read_to_string(folder.path("page.html")).unwrap();
+        assert!(page.contains("\n\"start\":\"home\",\n"));
+        match written {
+            Some(member) => assert!(page.contains(member)),
+            None => assert!(!page.contains("\n\"home\":")),
+        }
+    }
     for format in ["text", "json"] {
         folder.twill(&format!("retrace a.txt --home -5,3 --format {format} -o path")).done();
         let told = folder.twill("verify a.txt path").done();

@@ -3,7 +3,8 @@
 //!
 //! The work is done by a static library that was proved to give what documents 01
 //! and 02 of the project define. This crate calls it: it turns slices and results into
-//! Rust's types and a refusal into an error. It computes nothing itself.
+//! Rust's types and a refusal into an error. It works out no answer itself; only whose
+//! coordinate a refusal 4 is, it tells by the parked point that was handed over.
 //!
 //! The answers hold for IEEE 754's default floating-point environment alone: rounding to
 //! nearest, ties to even, and subnormal numbers kept, as results and as operands. Rust itself

@@ -99,8 +99,8 @@ impl<'a> Plate<'a> {
     ///
     /// # Errors
     ///
-    /// Those of [`order_into`], and [`BadLayer`](Refusal::BadLayer), which alters no slice either, after
-    /// [`Miscounted`](Refusal::Miscounted).
+    /// Those of [`order_into`], and [`BadLayer`](Refusal::BadLayer), which alters no slice either,
+    /// after [`Miscounted`](Refusal::Miscounted).
     pub fn order_into(
         &self,
         size: Size,
@@ -143,8 +143,8 @@ impl<'a> Plate<'a> {
     ///
     /// # Errors
     ///
-    /// Those of [`straight_into`], and [`BadLayer`](Refusal::BadLayer), which alters no slice either, after
-    /// [`Miscounted`](Refusal::Miscounted).
+    /// Those of [`straight_into`], and [`BadLayer`](Refusal::BadLayer), which alters no slice either,
+    /// after [`Miscounted`](Refusal::Miscounted).
     pub fn straight_into(
         &self,
         size: Size,
@@ -204,7 +204,7 @@ pub enum StartPointStrategy {
     Inside,
     /// A strictly smaller squared distance from the parked point is taken. That point counts as it
     /// is, and may be far from every contour; each of its coordinates is at most 1,000,000 in
-    /// magnitude.
+    /// magnitude, else the call is refused ([`HomeOffThePlate`](Refusal::HomeOffThePlate)).
     Home(Point),
 }
 

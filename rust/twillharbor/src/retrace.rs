@@ -313,8 +313,8 @@ impl Plate<'_> {
     ///
     /// # Errors
     ///
-    /// Those of [`retrace_into`], and [`BadLayer`](Refusal::BadLayer), which alters no slice either, after
-    /// [`Miscounted`](Refusal::Miscounted).
+    /// Those of [`retrace_into`], and [`BadLayer`](Refusal::BadLayer), which alters no slice either,
+    /// after [`Miscounted`](Refusal::Miscounted).
     pub fn retrace_into(
         &self,
         size: Size,

@@ -405,8 +405,8 @@ class Picture {
   }
 }
 
-/** The plate's corners and its centre, which decides on the start unless there is a parked point.
- *  They are no lines that could be taken for grooves to come. */
+/** The plate's corners and, where it decides on the start, its centre. They are no lines that could
+ *  be taken for grooves to come. */
 function drawPlate(target, v) {
   const [left, top] = [acrossOf(v, 0), downOf(v, 0)];
   const [right, bottom] = [acrossOf(v, data.width), downOf(v, data.height)];

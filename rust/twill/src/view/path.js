@@ -163,7 +163,7 @@ const bounds = (() => {
   }
   if (!points) return { left: 0, top: 0, right: data.width || 1, bottom: data.height || 1 };
   // The plate's own rectangle and the parked point are shown too, unless the contours would become
-  // small by it.
+  // small by them.
   const size = Math.max(right - left, bottom - top);
   const widened = (box, x0, y0, x1, y1) => {
     const outer = {

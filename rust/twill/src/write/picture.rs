@@ -86,8 +86,9 @@ impl Frame {
         let side = extent.side().max(1e-3);
         let unit = side / 320.0;
         let margin = 16.0 * unit;
-        // Wide enough for the words under the plate.
-        let width = (right - left + 2.0 * margin).max(210.0 * unit);
+        // Wide enough for the words under the plate, of which a parked point's are the longest.
+        let words = if plate.home().is_some() { 290.0 } else { 210.0 };
+        let width = (right - left + 2.0 * margin).max(words * unit);
         Self {
             left: (left + right - width) / 2.0,
             top: top - margin,

@@ -197,7 +197,7 @@ fn work(contours: usize, random: &mut Random) -> usize {
     }
 }
 
-/// A plate that is refused, for one reason or for several, and any slices.
+/// A plate that may be refused, for one reason or for several, and any slices.
 fn refused(
     plate: &Plate,
     strategy: StartPointStrategy,

@@ -4,8 +4,6 @@
 use twillharbor::StartPointStrategy::{self, Home, Inside, Outside};
 use twillharbor::{Point, Size};
 
-use crate::rule::centre;
-
 /// The reference, or one of its copies. Empty contours are handed over too, but to `start`.
 pub trait Mujou {
     type Contour;
@@ -56,12 +54,12 @@ fn sides(strategy: StartPointStrategy, size: Size) -> [u32; 2] {
     [size.width, size.height]
 }
 
-/// The centre that is handed in: with Home the parked point.
-fn parked(strategy: StartPointStrategy, size: Size) -> Point {
-    match strategy {
-        Home(point) => point,
-        Outside | Inside => centre(size),
-    }
+/// The centre that is handed in.
+fn parked(strategy: StartPointStrategy) -> Point {
+    let Home(point) = strategy else {
+        unreachable!("Home alone is compared with it");
+    };
+    point
 }
 
 /// The packages have the same functions, each of its own types.
@@ -158,8 +156,8 @@ mujou!(
     Parked,
     mujou_reference_home,
     |contour: Self::Contour, layer| contour.in_layer(layer),
-    |strategy, size| {
-        let Point { x, y } = parked(strategy, size);
+    |strategy, _size| {
+        let Point { x, y } = parked(strategy);
         let center = mujou_reference_home::types::Point::new(x, y);
         mujou_reference_home::types::Dimensions { center }
     }

@@ -1,8 +1,8 @@
 //! The reference's answers to the start, order, straight and retrace calls.
 //!
 //! They are those of the copy with layers, and with Home those of the copy of that one whose centre
-//! is handed in. Where all contours that hold a point are of one layer, mujou's own functions, which
-//! know no layers and no parked point, must give the same with Outside and Inside.
+//! is handed in. Where all contours that hold a point are of one layer, mujou's own functions,
+//! which know no layers and no parked point, must give the same with Outside and Inside.
 
 use twillharbor::StartPointStrategy::{self, Home, Inside, Outside};
 

@@ -1,5 +1,5 @@
-//! The retrace call against the reference's `join_retrace`, with layers; Home against the reference's
-//! Inside with the parked point for its centre.
+//! The retrace call against the reference's `join_retrace`, with layers; Home against the
+//! reference's Inside with the parked point for its centre.
 //!
 //! Every call is lent slices between margins of random bits, and all bits are compared
 //! afterwards: of the answer, of inputs and outputs, and of both work slices after every
@@ -299,7 +299,7 @@ fn rooms(count: usize, random: &mut Random) -> Vec<[usize; 2]> {
     ]
 }
 
-/// A plate that is refused, for one reason or for several, and any slices.
+/// A plate that may be refused, for one reason or for several, and any slices.
 fn refused(
     plate: &Plate,
     strategy: StartPointStrategy,

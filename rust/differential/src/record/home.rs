@@ -23,8 +23,8 @@ const G: Contours = &[&[(0.0, 0.0)], &[(1.0, 0.0)], &[(0.0, 1.0)]];
 /// Both ends are as far from 0.
 const ACROSS: Contours = &[&[(1.0, 0.0), (-1.0, 0.0)]];
 
-/// Contours, layers, the parked point, and which contour leads, with 1 if it is reversed; none where
-/// no contour holds a point.
+/// Contours, layers, the parked point, and which contour leads, with 1 if it is reversed; none
+/// where no contour holds a point.
 type Sound = (Contours, &'static [u32], (f64, f64), Option<[u32; 2]>);
 
 const SOUND: [Sound; 38] = [

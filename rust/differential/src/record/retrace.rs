@@ -64,9 +64,9 @@ struct Row {
 /// The rows: document 01's plates A and D to G, others that separate one rule from another,
 /// plates whose contours meet, plates that are refused, plates that document 02's layers decide,
 /// then two of each kind of plate but those of `passed_over`, in layers, but one of each kind whose
-/// contours meet (more would not fit the replaying program's room), the same number of each damage,
-/// and one plate by hand on which the search passes over a nearer point. Then come the rows of Home:
-/// plates that the parked point decides, and one of each kind of `plates`.
+/// contours meet, the same number of each damage, and one plate by hand on which the search passes
+/// over a nearer point. Then come the rows of Home: plates that the parked point decides, and one
+/// of each kind of `plates`.
 pub fn retraces() -> String {
     let rows = rows();
     let mut words = Words::default();

@@ -6,6 +6,7 @@ usage: tools/respell.py [FOLDER]     after the port's script, once, at the top o
 A lowercase name that a file of specs/ or proofs/ declares, with a capital or a dash in it, becomes snake case: contoursOf and contours-of
 are contours_of. It is renamed wherever it stands: in .antt and .rt files, in must-fail edits, and between code marks in the pages.
 Names stay that come from elsewhere: goals of functions (`returns-then-..`), what a file imports from the library, functions of src/, strings.
+It runs once: a second time it would take new names of definitions for old ones of lemmas, so then it stops.
 Where a lemma's name falls together with that of a definition, the lemma's gets `_lem`: the tables TOGETHER and ALREADY.
 """
 
@@ -170,6 +171,8 @@ def turned_edit(text, path, names_of):
 def main():
     root = sys.argv[1] if len(sys.argv) > 1 else "."
     crates = os.listdir(os.path.join(root, "crates"))
+    if any(re.search(rf"\b{n}_lem :", read(p)) for n in ALREADY for p in files(os.path.join(root, "crates"), ".antt")):
+        sys.exit("respell.py: these names are respelled already")
     own = own_names(root)
     pages = [p for p in files(root, ".md") if "/reference/" not in p]
     kept = {}

@@ -1,30 +1,28 @@
 // Floats and points compared by their bits.
 #![tactic(auto)]
 
-ghost use Rattle.std.specs.Prelude.{◌≡◌, ◌+◌, ◌*◌, ◌<◌, length};
-ghost use Rattle.rules.specs.HandedOver.{at};
+ghost use Rattle.std.specs.Prelude.{◌≡◌};
 ghost use Rattle.rules.specs.Bits.{same_float, same_point};
 
-// Whether two floats have the same bits, every NaN being one.
+use rules::Point;
+
+// Whether two floats have the same bits, every NaN being one. By `==` 0 and −0 are one and a NaN is none, by `total_cmp` NaNs differ: neither serves.
 pub fn same_bits(a: f64, b: f64) -> bool
     ensures { result ≡ same_float a b }
 {
-    if a != a {
-        return b != b;
+    if a.is_nan() {
+        return b.is_nan();
     }
-    if b != b {
+    if b.is_nan() {
         return false;
     }
-    f64::to_bits(a) == f64::to_bits(b)
+    a.to_bits() == b.to_bits()
 }
 
-// Whether point i of xs and point j of ys have the same bits.
-pub fn same_point(xs: &[f64], i: usize, ys: &[f64], j: usize) -> bool
-    requires { (2 * i + 1 < length xs.now) × (2 * j + 1 < length ys.now) }
-    ensures { result ≡ same_point (at xs.now i) (at ys.now j) }
+// Whether two points have the same bits.
+#[tactic(auto, unfolding(rules::specs::Bits::same_point))]
+pub fn same_point(a: Point, b: Point) -> bool
+    ensures { result ≡ same_point a b }
 {
-    if same_bits(xs[2 * i], ys[2 * j]) {
-        return same_bits(xs[2 * i + 1], ys[2 * j + 1]);
-    }
-    false
+    same_bits(a.x, b.x) && same_bits(a.y, b.y)
 }

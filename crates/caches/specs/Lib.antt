@@ -1,3 +1,4 @@
 pub mod Held
 pub mod Moved
 pub mod Querying
+pub mod Framed

@@ -11,7 +11,6 @@ ghost use Rattle.rules.specs.SamplesAndCache.{waiting};
 ghost use Rattle.path.specs.Accepted.{Accepted};
 ghost use Rattle.layout.specs.Laid.{Laid};
 ghost use Rattle.layout.specs.Parts.{from};
-ghost use Rattle.grid.specs.Sane.{Sane};
 ghost use Rattle.prepare.specs.Holds.{Holds};
 ghost use Rattle.history.specs.History as history;
 ghost use Rattle.caches.specs.Querying.{Querying};
@@ -20,54 +19,54 @@ ghost use Rattle.caches_c.specs.Results.{has_path, has_slices, Shows, Others};
 ghost use Rattle.caches_c.specs.Stages.{Stage, Settled};
 
 use caches::{seed_caches, update_nearby_caches};
+use grid::Grid;
 use grid_c::{accepted_points, grid_for, insert_run};
-use history::clear;
+use history::{PathSoFar, clear};
 use layout::{Layout, laid_out};
 use prepare::prepare;
-use rules::{SpatialGrid, Vertex};
+use rules::Vertex;
+use samples::Frame;
 use start::Contour;
 
 // The slices before the start: no point is on the path, and every contour waits.
 fn set_up(
     points: &[f64],
     lengths: &[u32],
-    g: SpatialGrid,
+    grid: Grid,
     room: u32,
     distances: &mut [f64],
     work: &mut [u32],
 ) -> Layout
-    requires { (Accepted points.now lengths.now) × (Sane g) × (room ≤ 65536) × (length lengths.now ≤ length distances.old)
+    requires { (Accepted points.now lengths.now) × (room ≤ 65536) × (length lengths.now ≤ length distances.old)
         × (376832 ≤ length work.old) }
-    ensures { Stage points.now lengths.now g room result distances.new work.new 0 (λ p c. waiting p g c) }
+    ensures { Stage points.now lengths.now grid.spatial room result distances.new work.new 0 (λ p c. waiting p grid.spatial c) }
 {
-    let cells = (g.cols as usize) * (g.rows as usize);
-    let lay = laid_out(
+    let cells = (grid.spatial.cols as usize) * (grid.spatial.rows as usize);
+    let layout = laid_out(
         2916 + (room as usize),
         points.len() / 2,
         cells,
         lengths.len(),
     );
+    let frame = Frame {
+        points,
+        grid,
+        layout,
+    };
     clear(&mut *work);
-    prepare(points, lengths, g, &mut *distances, &mut *work, lay);
-    lay
+    prepare(&frame, lengths, &mut *distances, &mut *work);
+    layout
 }
 
 // A contour that was emitted waits no more, and the caches around it are updated.
-fn settle(
-    points: &[f64],
-    g: SpatialGrid,
-    distances: &mut [f64],
-    work: &mut [u32],
-    lay: Layout,
-    number: u32,
-    count: u32,
-)
-    requires { (Querying points.now g lay distances.old work.old points.now count) × (number < lay.contours)
-        × (1 ≤ from work.old lay.waiting number)
-        × (from work.old lay.firsts number + from work.old lay.waiting number ≤ lay.points)
-        × ((k : ℕ) → k < lay.cells → from work.old lay.flags k ≡ 0) }
-    ensures { Settled points.now g lay number count distances.old work.old distances.new work.new }
+fn settle(frame: &Frame<'_>, distances: &mut [f64], work: &mut [u32], number: u32, count: u32)
+    requires { (Querying frame.now.points.now frame.now.grid.spatial frame.now.layout distances.old work.old frame.now.points.now count)
+        × (number < frame.now.layout.contours) × (1 ≤ from work.old frame.now.layout.waiting number)
+        × (from work.old frame.now.layout.firsts number + from work.old frame.now.layout.waiting number ≤ frame.now.layout.points)
+        × ((k : ℕ) → k < frame.now.layout.cells → from work.old frame.now.layout.flags k ≡ 0) }
+    ensures { Settled frame.now.points.now frame.now.grid.spatial frame.now.layout number count distances.old work.old distances.new work.new }
 {
+    let lay = frame.layout;
     let f = lay.firsts + (number as usize);
     let a = lay.waiting + (number as usize);
     let c = Contour {
@@ -76,43 +75,47 @@ fn settle(
         last: work[a] - 1,
     };
     work[a] = 0;
-    update_nearby_caches(
-        points,
-        g,
-        &mut *distances,
-        &mut *work,
-        lay,
-        1,
-        c,
-        points,
+    let path = PathSoFar {
+        points: frame.points,
         count,
-    );
+    };
+    update_nearby_caches(frame, &mut *distances, &mut *work, 1, c, &path);
 }
 
 // Seeds the caches by the first `before` points, and updates them around a contour by the first `count`.
 fn caches_around(
     points: &[f64],
     lengths: &[u32],
-    g: SpatialGrid,
+    grid: Grid,
     number: u32,
     before: u32,
     count: u32,
     distances: &mut [f64],
     work: &mut [u32],
 ) -> Layout
-    requires { (Accepted points.now lengths.now) × (Sane g) × (0 < get_or lengths.now number 0) × (before ≤ count)
+    requires { (Accepted points.now lengths.now) × (0 < get_or lengths.now number 0) × (before ≤ count)
         × (count ≤ sum lengths.now) × (length lengths.now ≤ length distances.old) × (376832 ≤ length work.old) }
     ensures { let xs = points.now in let ns = lengths.now in
         (Laid result (length work.new)) × (result.contours ≡ length ns)
         × ((p : Plate) → p.points ≡ xs → p.lengths ≡ ns →
-        Others p g number (history.points xs before) (history.points xs count) (Holds xs g result distances.new work.new)) }
+        Others p grid.spatial number (history.points xs before) (history.points xs count) (Holds xs grid.spatial result distances.new work.new)) }
 {
-    let lay = set_up(points, lengths, g, count, &mut *distances, &mut *work);
-    insert_run(g, points, &mut *work, 0, before);
-    seed_caches(points, g, &mut *distances, &mut *work, lay, points, before);
-    insert_run(g, points, &mut *work, before, count);
-    settle(points, g, &mut *distances, &mut *work, lay, number, count);
-    lay
+    let layout = set_up(points, lengths, grid, count, &mut *distances, &mut *work);
+    let frame = Frame {
+        points,
+        grid,
+        layout,
+    };
+    let path = PathSoFar {
+        points,
+        count: before,
+    };
+    let longer = PathSoFar { points, count };
+    insert_run(grid, &path, &mut *work, 0);
+    seed_caches(&frame, &mut *distances, &mut *work, &path);
+    insert_run(grid, &longer, &mut *work, before);
+    settle(&frame, &mut *distances, &mut *work, number, count);
+    layout
 }
 
 // Copies the cached entries of all contours.
@@ -120,22 +123,16 @@ fn copy_entries(work: &[u32], lay: Layout, entries: &mut [u32])
     requires { (Laid lay (length work.now)) × (lay.contours ≤ length entries.old) }
     ensures { (j : ℕ) → j < lay.contours → get_or entries.new j 0 ≡ from work.now lay.entries j }
 {
-    let n = lay.contours;
-    for j in 0..n {
-        let e = lay.entries + j;
-        entries[j] = work[e];
-    }
+    let start = lay.entries;
+    let end = start + lay.contours;
+    entries[0..lay.contours].copy_from_slice(&work[start..end]);
 }
 
-// The length of a contour, or 0 where there is none of that number.
+// The length of a contour, or 0 where there is none of that number: none and an empty one are refused alike.
 fn contour_length(lengths: &[u32], number: u32) -> u32
     ensures { result ≡ get_or lengths.now number 0 }
 {
-    let i = number as usize;
-    if i < lengths.len() {
-        return lengths[i];
-    }
-    0
+    lengths.get(number as usize).copied().unwrap_or(0)
 }
 
 // Whether a plate of n points has such a path, and the contour that was emitted has a point.
@@ -196,11 +193,11 @@ pub extern "C" fn twillharbor_caches_update(
     if !has_slices(lengths.len(), work.len(), distances.len(), entries.len()) {
         return false;
     }
-    let g = grid_for(points);
+    let grid = grid_for(points);
     let lay = caches_around(
         points,
         lengths,
-        g,
+        grid,
         number,
         before,
         count,

@@ -13,58 +13,46 @@ use borrow.Author.Tests.{eq-eqb, ne_eqb}
 use Rattle.rules.specs.Tools.{pick, foldl, leads, highest_layer, foremost}
 use Rattle.path.specs.Layers.{leads_in, taking_low, taking_high}
 use Rattle.path.proofs.Layers.{beats_lower, beats_higher, beats_alike, foremost_is}
-use Rattle.choosing.specs.Leader.{closer_by, layer_by, leader_of}
+use Rattle.choosing.specs.Leader.{closer_by, layer_by}
 use Rattle.choosing.specs.Lined.{waiters_from}
 
-module _ (n : ℕ) where
-  pub leader_none : (best : ℕ) → best ≡ n → leader_of n best ≡ none
-  unfolding leader_of pick
-  leader_none best e = rw (eq-eqb best n e)
-
-  pub leader_some : (best : ℕ) → (best ≡ n → ⊥) → leader_of n best ≡ some best
-  unfolding leader_of pick
-  leader_some best d = rw (ne_eqb best n d)
-
-module _ (ls : List ℕ) (ds : List Float) (n best j waits : ℕ) where
+module _ (ls : List ℕ) (ds : List Float) (j waits : ℕ) where
   -- the lead after contour j
-  abbrev pub after : Option ℕ
-  after = pick (eqb waits 0) (leader_of n best) (leads_in (layer_by ls) (closer_by ds) (leader_of n best) j)
+  abbrev pub after : Option ℕ → Option ℕ
+  after lead = pick (eqb waits 0) lead (leads_in (layer_by ls) (closer_by ds) lead j)
 
-  pub after_skip : waits ≡ 0 → leader_of n best ≡ after
+  pub after_skip : (lead : Option ℕ) → waits ≡ 0 → lead ≡ after lead
   unfolding pick
-  after_skip e = rw (eq-eqb waits 0 e)
+  after_skip lead e = rw (eq-eqb waits 0 e)
 
   -- there was no lead
 
-  pub after_high : (waits ≡ 0 → ⊥) → best ≡ n → highest_layer < get_or ls j 0 → leader_of n best ≡ after
+  pub after_high : (waits ≡ 0 → ⊥) → highest_layer < get_or ls j 0 → none ≡ after none
   unfolding pick leads_in layer_by
-  after_high d e h = rw (ne_eqb waits 0 d, leader_none n best e, taking_high (layer_by ls) j h)
+  after_high d h = rw (ne_eqb waits 0 d, taking_high (layer_by ls) j h)
 
-  pub after_first : (waits ≡ 0 → ⊥) → j < n → best ≡ n → get_or ls j 0 ≤ highest_layer → leader_of n j ≡ after
+  pub after_first : (waits ≡ 0 → ⊥) → get_or ls j 0 ≤ highest_layer → some j ≡ after none
   unfolding pick leads_in layer_by
-  after_first d l e h = rw (ne_eqb waits 0 d, leader_none n best e, taking_low (layer_by ls) j h) (leader_some n j (λ q. omega arith))
+  after_first d h = rw (ne_eqb waits 0 d, taking_low (layer_by ls) j h)
 
   -- there was one
+  module _ (best : ℕ) where
+    pub after_closer : (waits ≡ 0 → ⊥) → get_or ls j 0 ≡ get_or ls best 0 → lt (get_or ds j nan) (get_or ds best nan) ≡ true → some j ≡ after (some best)
+    unfolding pick leads leads_in layer_by closer_by
+    after_closer d e t = rw (ne_eqb waits 0 d, beats_alike (layer_by ls) (closer_by ds) j best e, t)
 
-  pub after_closer : (waits ≡ 0 → ⊥) → j < n → (best ≡ n → ⊥) → get_or ls j 0 ≡ get_or ls best 0 → lt (get_or ds j nan) (get_or ds best nan) ≡ true →
-      leader_of n j ≡ after
-  unfolding pick leads leads_in layer_by closer_by
-  after_closer d l b e t =
-      rw (ne_eqb waits 0 d, leader_some n best b, beats_alike (layer_by ls) (closer_by ds) j best e, t) (leader_some n j (λ q. omega arith))
+    pub after_farther : (waits ≡ 0 → ⊥) → get_or ls j 0 ≡ get_or ls best 0 → lt (get_or ds j nan) (get_or ds best nan) ≡ false →
+        some best ≡ after (some best)
+    unfolding pick leads leads_in layer_by closer_by
+    after_farther d e t = rw (ne_eqb waits 0 d, beats_alike (layer_by ls) (closer_by ds) j best e, t)
 
-  pub after_farther : (waits ≡ 0 → ⊥) → (best ≡ n → ⊥) → get_or ls j 0 ≡ get_or ls best 0 → lt (get_or ds j nan) (get_or ds best nan) ≡ false →
-      leader_of n best ≡ after
-  unfolding pick leads leads_in layer_by closer_by
-  after_farther d b e t = rw (ne_eqb waits 0 d, leader_some n best b, beats_alike (layer_by ls) (closer_by ds) j best e, t)
+    pub after_lower : (waits ≡ 0 → ⊥) → get_or ls j 0 < get_or ls best 0 → some j ≡ after (some best)
+    unfolding pick leads leads_in layer_by
+    after_lower d t = rw (ne_eqb waits 0 d, beats_lower (layer_by ls) (closer_by ds) j best t)
 
-  pub after_lower : (waits ≡ 0 → ⊥) → j < n → (best ≡ n → ⊥) → get_or ls j 0 < get_or ls best 0 → leader_of n j ≡ after
-  unfolding pick leads leads_in layer_by
-  after_lower d l b t =
-      rw (ne_eqb waits 0 d, leader_some n best b, beats_lower (layer_by ls) (closer_by ds) j best t) (leader_some n j (λ q. omega arith))
-
-  pub after_higher : (waits ≡ 0 → ⊥) → (best ≡ n → ⊥) → get_or ls best 0 < get_or ls j 0 → leader_of n best ≡ after
-  unfolding pick leads leads_in layer_by
-  after_higher d b t = rw (ne_eqb waits 0 d, leader_some n best b, beats_higher (layer_by ls) (closer_by ds) j best t)
+    pub after_higher : (waits ≡ 0 → ⊥) → get_or ls best 0 < get_or ls j 0 → some best ≡ after (some best)
+    unfolding pick leads leads_in layer_by
+    after_higher d t = rw (ne_eqb waits 0 d, beats_higher (layer_by ls) (closer_by ds) j best t)
 
 -- ---- the rest is still to come
 
@@ -91,6 +79,5 @@ module _ (ls : List ℕ) (ds : List Float) (waits : ℕ → ℕ) where
   unfolding waiters_from
   led_end n j lead l = let e : n - j ≡ 0 = omega arith in rw e
 
-  pub led_start : (n : ℕ) → led_from n 0 (leader_of n n) ≡ foremost (layer_by ls) (closer_by ds) (waiters_from waits 0 n)
-  led_start n =
-      let e : n - 0 ≡ n = omega arith in rw (e, leader_none n n refl) (sym (foremost_is (layer_by ls) (closer_by ds) (waiters_from waits 0 n)))
+  pub led_start : (n : ℕ) → led_from n 0 none ≡ foremost (layer_by ls) (closer_by ds) (waiters_from waits 0 n)
+  led_start n = let e : n - 0 ≡ n = omega arith in rw e (sym (foremost_is (layer_by ls) (closer_by ds) (waiters_from waits 0 n)))

@@ -10,6 +10,7 @@ use native.Mathlib.Decide.{ℕ_discrete}
 use lib.ListN.{get_or}
 use lib.Ieee.{Float, nan}
 use lib.Dec.{leb}
+use Rattle.std.specs.Prelude.{Some}
 use Rattle.rules.specs.Tools.{pick, foldl, leads, highest_layer, foremost}
 use Rattle.rules.specs.HandedOver.{Plate, Contour, layer_at}
 use Rattle.rules.specs.SamplesAndCache.{Waiting}
@@ -22,12 +23,10 @@ use Rattle.start.specs.Oriented.{contour_of}
 use Rattle.layout.specs.Parts.{from}
 use Rattle.layout.specs.declared.Layout.{Layout}
 use Rattle.prepare.specs.Holds.{Holds}
-use Rattle.choosing.specs.Leader.{closer_by, layer_by, leader_of}
+use Rattle.choosing.specs.Leader.{closer_by, layer_by}
 use Rattle.choosing.specs.Lined.{waiters_from, Lined}
 use Rattle.choosing.specs.Lining.{waiters_skip, waiters_take}
 use Rattle.choosing.specs.Picks.{Picks}
-use Rattle.choosing.specs.declared.Chosen.TheVariants.{Candidate}
-use Rattle.choosing.proofs.Leading.{leader_none, leader_some}
 
 -- ---- it waits
 
@@ -109,31 +108,33 @@ contour_is : (c : Contour) (number first size : ℕ) → c.number ≡ number →
     ◌≡◌ {A = Contour} (record { number = number; first = first; last = size - 1 }) c
 contour_is c number first size n f s = let l : size - 1 ≡ c.last = omega arith in rw (sym n, f, l)
 
-module _ (lay : Layout) (ls : List ℕ) (ds : List Float) (w : List ℕ) (r : ℕ)
-    (led : leader_of lay.contours r ≡ foremost (layer_by ls) (closer_by ds) (waiters_from (from w lay.waiting) 0 lay.contours)) where
-  pub leader_waits : (r ≡ lay.contours → ⊥) → from w lay.waiting r ≡ 0 → ⊥
-  leader_waits d = foremost_has (layer_by ls) (closer_by ds) (λ i. from w lay.waiting i ≡ 0 → ⊥) _ (waiters_wait (from w lay.waiting) 0 lay.contours) r (sym led ∙ leader_some lay.contours r d)
+module _ (lay : Layout) (ls : List ℕ) (ds : List Float) (w : List ℕ) where
+  abbrev pub first_one : Option ℕ
+  first_one = foremost (layer_by ls) (closer_by ds) (waiters_from (from w lay.waiting) 0 lay.contours)
+
+  pub leader_waits : (r : ℕ) → some r ≡ first_one → from w lay.waiting r ≡ 0 → ⊥
+  leader_waits r led =
+      foremost_has (layer_by ls) (closer_by ds) (λ i. from w lay.waiting i ≡ 0 → ⊥) _ (waiters_wait (from w lay.waiting) 0 lay.contours) r (sym led)
 
   module _ (p : Plate) (xs : List Float) (g : SpatialGrid) (ws : List Waiting) (same : p.layers ≡ ls) (lined : Lined (from w lay.waiting) lay.contours ws)
       (held : All (Holds xs g lay ds w) ws) where
-    leader_is : leader_of lay.contours r ≡ lead_number (choose p ws)
+    leader_is : first_one ≡ lead_number (choose p ws)
     unfolding Lined waiting_number
-    leader_is = led ∙ ap (foremost (layer_by ls) (closer_by ds)) (sym lined) ∙ sym (choose_number p ls same ds ws (all_give _ _ (λ c h. h.squared) ws held))
+    leader_is = ap (foremost (layer_by ls) (closer_by ds)) (sym lined) ∙ sym (choose_number p ls same ds ws (all_give _ _ (λ c h. h.squared) ws held))
 
-    pub none_chosen : r ≡ lay.contours → choose p ws ≡ none
-    none_chosen e = (map-eq-none_iff waiting_number (choose p ws)).0 (sym leader_is ∙ leader_none lay.contours r e)
+    pub none_chosen : none ≡ first_one → choose p ws ≡ none
+    none_chosen led = (map-eq-none_iff waiting_number (choose p ws)).0 (sym (led ∙ leader_is))
 
-    one_chosen : (r ≡ lay.contours → ⊥) → (c : Waiting) × (choose p ws ≡ some c) × (waiting_number c ≡ r)
-    one_chosen d = (map-eq-some_iff waiting_number (choose p ws)).0 (sym leader_is ∙ leader_some lay.contours r d)
-
-    pub candidate_chosen : (r ≡ lay.contours → ⊥) →
+    pub candidate_chosen : (r : ℕ) → some r ≡ first_one →
         Picks
-        (Candidate (record { number = r; first = record { 0 = from w lay.firsts r }; last = from w lay.waiting r - 1 })
-        (record { 0 = from w lay.entries r }))
+        (Some (record {
+          contour = record { number = r; first = record { 0 = from w lay.firsts r }; last = from w lay.waiting r - 1 };
+          entry = record { 0 = from w lay.entries r };
+        }))
         (choose p ws)
     unfolding choose waiting_number contour_of
-    candidate_chosen d =
-        let o = one_chosen d in
+    candidate_chosen r led =
+        let o = (map-eq-some_iff waiting_number (choose p ws)).0 (sym (led ∙ leader_is)) in
         let c = o.0 in
         let h = foremost_has (waiting_layer p) closer (Holds xs g lay ds w) ws held c o.1 in
         let e : c.contour.number ≡ r = o.2 in (

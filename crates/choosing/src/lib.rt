@@ -1,7 +1,7 @@
 // The choice of the contour that enters the path next, by the lent slices.
 #![tactic(auto)]
 
-ghost use Rattle.std.specs.Prelude.{◌≡◌, List, ◌≤◌, ◌<◌, eqb, Float, length};
+ghost use Rattle.std.specs.Prelude.{◌≡◌, ℕ, List, ◌≤◌, ◌<◌, eqb, Float, length, IfSome};
 ghost use Rattle.rules.specs.Tools.{pick, foremost};
 ghost use Rattle.rules.specs.HandedOver.{Plate};
 ghost use Rattle.rules.specs.SamplesAndCache.{Waiting};
@@ -22,85 +22,79 @@ use start::Contour;
 
 // The waiting contour that enters the path next, and the vertex that it is entered at.
 #[derive(Clone, Copy)]
-pub enum Chosen {
-    Candidate(Contour, Vertex),
-    Nobody,
+pub struct Candidate {
+    pub contour: Contour,
+    pub entry: Vertex,
 }
 
-// The lead after contour j, which waits unless `waits` is 0. `count`, the number of no contour, stands for no lead. What is above the highest layer takes
-// no part: only the first lead is held to that, for a lead loses to no higher layer.
+// The lead after contour j, which waits unless `waits`, the slice's number, is 0. What is above the highest layer takes no part: only the first lead is held to that,
+// for a lead loses to no higher layer.
 fn lead_after(
     distances: &[f64],
     layers: &[u32],
-    count: usize,
-    best: usize,
+    lead: Option<usize>,
     j: usize,
     waits: u32,
-) -> usize
-    requires { (count ≤ length distances.now) × (best ≤ count) × (j < count) × (count ≤ length layers.now) }
-    ensures { (result ≤ count)
-        × (let lead = leader_of count best in
-        leader_of count result ≡ pick (eqb waits 0) lead (leads_in (layer_by layers.now) (closer_by distances.now) lead j)) }
+) -> Option<usize>
+    requires reached { (j < length distances.now) × (j < length layers.now) }
+    requires led { IfSome lead (λ best. (best < length distances.now) × (best < length layers.now)) }
+    ensures led { (n : ℕ) → j < n → IfSome lead (λ best. best < n) → IfSome result (λ best. best < n) }
+    ensures leads { leader_of result
+        ≡ pick (eqb waits 0) (leader_of lead) (leads_in (layer_by layers.now) (closer_by distances.now) (leader_of lead) j) }
 {
     if waits == 0 {
-        return best;
+        return lead;
     }
-    if best == count {
+    let Some(best) = lead else {
         if HIGHEST_LAYER < layers[j] {
-            return best;
+            return None;
         }
-        return j;
-    }
+        return Some(j);
+    };
     if layers[j] == layers[best] {
         if distances[j] < distances[best] {
-            return j;
+            return Some(j);
         }
-        return best;
+        return lead;
     }
     if layers[j] < layers[best] {
-        return j;
+        return Some(j);
     }
-    best
+    lead
 }
 
-// Of the waiting contours of the lowest layer that with the least cached distance, the lowest on ties; the count of contours where none that takes part waits.
-fn closest(distances: &[f64], layers: &[u32], work: &[u32], lay: Layout) -> usize
+// Of the waiting contours of the lowest layer that with the least cached distance, the lowest on ties.
+fn closest(distances: &[f64], layers: &[u32], work: &[u32], lay: Layout) -> Option<usize>
     requires { (Laid lay (length work.now)) × (lay.contours ≤ length distances.now) × (lay.contours ≤ length layers.now) }
-    ensures { (result ≤ lay.contours)
-        × (leader_of lay.contours result
-        ≡ foremost (layer_by layers.now) (closer_by distances.now) (waiters_from (from work.now lay.waiting) 0 lay.contours)) }
+    ensures led { IfSome result (λ best. best < lay.contours) }
+    ensures foremost { leader_of result
+        ≡ foremost (layer_by layers.now) (closer_by distances.now) (waiters_from (from work.now lay.waiting) 0 lay.contours) }
 {
-    let count = lay.contours;
-    let mut best = count;
-    for j in 0..count {
-        let a = lay.waiting + j;
-        best = lead_after(distances, layers, count, best, j, work[a]);
+    let mut lead = None;
+    for j in 0..lay.contours {
+        lead = lead_after(distances, layers, lead, j, work[lay.waiting + j]);
     }
-    best
+    lead
 }
 
 // The waiting contour that the rules choose, where the slices hold all that wait.
-pub fn choose_waiting(distances: &[f64], layers: &[u32], work: &[u32], lay: Layout) -> Chosen
+pub fn choose_waiting(
+    distances: &[f64],
+    layers: &[u32],
+    work: &[u32],
+    lay: Layout,
+) -> Option<Candidate>
     requires { (Laid lay (length work.now)) × (lay.contours ≤ length distances.now) × (lay.contours ≤ length layers.now) }
     ensures { (p : Plate) (xs : List Float) (g : SpatialGrid) (ws : List Waiting) → p.layers ≡ layers.now →
         Lined (from work.now lay.waiting) lay.contours ws →
         All (Holds xs g lay distances.now work.now) ws → Picks result (Retrace.choose p ws) }
 {
-    let j = closest(distances, layers, work, lay);
-    if j == lay.contours {
-        return Chosen::Nobody;
-    }
-    let number = j as u32;
-    let a = lay.waiting + j;
-    let last = work[a] - 1;
-    let f = lay.firsts + j;
-    let first = work[f];
-    let e = lay.entries + j;
-    let entry = work[e];
-    let c = Contour {
-        number,
-        first: Vertex(first),
-        last,
+    let j = closest(distances, layers, work, lay)?;
+    let contour = Contour {
+        number: j as u32,
+        first: Vertex(work[lay.firsts + j]),
+        last: work[lay.waiting + j] - 1,
     };
-    Chosen::Candidate(c, Vertex(entry))
+    let entry = Vertex(work[lay.entries + j]);
+    Some(Candidate { contour, entry })
 }

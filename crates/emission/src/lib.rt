@@ -1,150 +1,95 @@
 // A contour's points: landed on, cut upward and downward, with their marks.
 #![tactic(auto)]
 
-ghost use Rattle.std.specs.Prelude.{◌++◌, map, ◌+◌, ◌-◌, ◌*◌, ◌≤◌, ◌<◌, length};
+ghost use Rattle.std.specs.Prelude.{◌++◌, map, ◌+◌, ◌-◌, ◌*◌, ◌≤◌, ◌<◌, ◌≡◌, [], ◌∷◌, length};
 ghost use Rattle.rules.specs.Tools.{up_from, down_to};
+ghost use Rattle.rules.specs.Marks.{kind_of, reference_of};
 ghost use Rattle.rules.specs.RetraceAndMarks.{cut_up, cut_down};
 ghost use Rattle.path.specs.Lists.{All};
 ghost use Rattle.path.specs.FiniteDistances.{OnPlate};
-ghost use Rattle.layout.specs.Parts.{KeptFrom};
 ghost use Rattle.start.specs.Oriented.{contour_of};
-ghost use Rattle.path_points.specs.Pen.{Pen, Grows};
+ghost use Rattle.path_points.specs.Writing.{reached, CanWrite, SameWriter, Written, Adds};
 ghost use Rattle.emission.specs.Drawn.{drawn};
 
-use path_points::{Mark, put, walk_back};
-use rules::{CUT, PathPlace, SpatialGrid, Vertex};
-use start::{Contour, point_at};
+use path_points::{Full, PathWriter};
+use rules::{Mark, PathPlace, Vertex, point_at};
+use start::Contour;
+
+// One cut, over the segment with this lower vertex, to one of its ends.
+fn cut(points: &[f64], writer: &mut PathWriter<'_>, low: Vertex, end: Vertex) -> Result<(), Full>
+    requires writable { CanWrite writer.old }
+    requires on_plate { All OnPlate points.now }
+    requires held { 2 * end.0 + 1 < length points.now }
+    ensures same { SameWriter writer.old writer.new }
+    ensures written { Written writer.old writer.new result }
+    ensures adds { Adds points.now writer.old writer.new result (λ steps. steps ++ record { vertex = end.0; kind = 1; reference = low.0 } ∷ []) }
+{
+    writer.put(point_at(points, end), Mark::Cut(low))
+}
 
 // n cuts upward from vertex v.
-fn cut_up(
-    points: &[f64],
-    g: SpatialGrid,
-    room: u32,
-    path: &mut [f64],
-    marks: &mut [u32],
-    work: &mut [u32],
-    count: u32,
-    v: Vertex,
-    n: u32,
-) -> u32
-    requires { (Pen g room count path.old marks.old work.old) × All OnPlate points.now
-        × (v.0 + n < 65536) × (2 * (v.0 + n) + 1 < length points.now) }
-    ensures { (Pen g room result path.new marks.new work.new)
-        × (KeptFrom (2916 + room) work.old work.new)
-        × (Grows points.now room count result path.old path.new marks.old marks.new
-        (λ steps. steps ++ map cut_up (up_from v.0 n)))
-        × (count ≤ result) }
+fn cut_up(points: &[f64], writer: &mut PathWriter<'_>, v: Vertex, n: u32) -> Result<(), Full>
+    requires writable { CanWrite writer.old }
+    requires fits { writer.old.count ≤ writer.old.room }
+    requires on_plate { All OnPlate points.now }
+    requires within { v.0 + n < 65536 }
+    requires held { 2 * (v.0 + n) + 1 < length points.now }
+    ensures same { SameWriter writer.old writer.new }
+    ensures written { Written writer.old writer.new result }
+    ensures adds { Adds points.now writer.old writer.new result (λ steps. steps ++ map cut_up (up_from v.0 n)) }
 {
-    let first = v.0;
-    let mut k = count;
     for i in 0..n {
-        let low = first + i;
-        let p = point_at(points, Vertex(low + 1));
-        let mark = Mark {
-            kind: CUT,
-            reference: low,
-        };
-        k = put(g, room, &mut *path, &mut *marks, &mut *work, k, p, mark);
+        let low = v.0 + i;
+        cut(points, &mut *writer, Vertex(low), Vertex(low + 1))?;
     }
-    k
+    Ok(())
 }
 
-// n cuts downward, to vertex v.
-fn cut_down(
-    points: &[f64],
-    g: SpatialGrid,
-    room: u32,
-    path: &mut [f64],
-    marks: &mut [u32],
-    work: &mut [u32],
-    count: u32,
-    v: Vertex,
-    n: u32,
-) -> u32
-    requires { (Pen g room count path.old marks.old work.old) × All OnPlate points.now
-        × (v.0 + n < 65536) × (2 * (v.0 + n) + 1 < length points.now) }
-    ensures { (Pen g room result path.new marks.new work.new)
-        × (KeptFrom (2916 + room) work.old work.new)
-        × (Grows points.now room count result path.old path.new marks.old marks.new
-        (λ steps. steps ++ map cut_down (down_to v.0 n))) }
+// n cuts downward, to vertex v. No twin of `cut_up`: order and end differ, and not a type or a constant.
+fn cut_down(points: &[f64], writer: &mut PathWriter<'_>, v: Vertex, n: u32) -> Result<(), Full>
+    requires writable { CanWrite writer.old }
+    requires fits { writer.old.count ≤ writer.old.room }
+    requires on_plate { All OnPlate points.now }
+    requires within { v.0 + n < 65536 }
+    requires held { 2 * (v.0 + n) + 1 < length points.now }
+    ensures same { SameWriter writer.old writer.new }
+    ensures written { Written writer.old writer.new result }
+    ensures adds { Adds points.now writer.old writer.new result (λ steps. steps ++ map cut_down (down_to v.0 n)) }
 {
-    let mut left = n;
-    let mut k = count;
-    while 0 < left {
-        left -= 1;
-        let low = v.0 + left;
-        let p = point_at(points, Vertex(low));
-        let mark = Mark {
-            kind: CUT,
-            reference: low,
-        };
-        k = put(g, room, &mut *path, &mut *marks, &mut *work, k, p, mark);
+    for i in (0..n).rev() {
+        let low = Vertex(v.0 + i);
+        cut(points, &mut *writer, low, low)?;
     }
-    k
+    Ok(())
 }
 
-// A contour, landed on at one of its vertices, with the kind of the landing's mark.
-#[derive(Clone, Copy)]
-pub struct Landing {
-    pub contour: Contour,
-    pub vertex: Vertex,
-    pub kind: u32,
-}
-
-// A contour's points: from the landing up to its last vertex, and unless that was vertex 0 back to the landing and down to vertex 0.
+// A contour's points, with the mark of the vertex landed on: from there up to its last vertex, and unless that was vertex 0 back to the landing and
+// down to vertex 0.
 pub fn emit(
     points: &[f64],
-    g: SpatialGrid,
-    room: u32,
-    path: &mut [f64],
-    marks: &mut [u32],
-    work: &mut [u32],
-    count: u32,
-    l: Landing,
-) -> u32
-    requires { (Pen g room count path.old marks.old work.old) × (count ≤ room) × All OnPlate points.now
-        × (l.contour.first.0 ≤ l.vertex.0) × (l.vertex.0 ≤ l.contour.first.0 + l.contour.last)
-        × (l.contour.first.0 + l.contour.last < 65536) × (2 * (l.contour.first.0 + l.contour.last) + 1 < length points.now) }
-    ensures { (Pen g room result path.new marks.new work.new)
-        × (KeptFrom (2916 + room) work.old work.new)
-        × (Grows points.now room count result path.old path.new marks.old marks.new
-        (λ steps. drawn l.kind steps (contour_of l.contour) (l.vertex.0 - l.contour.first.0))) }
+    writer: &mut PathWriter<'_>,
+    c: Contour,
+    landing: Mark,
+) -> Result<(), Full>
+    requires writable { CanWrite writer.old }
+    requires fits { writer.old.count ≤ writer.old.room }
+    requires on_plate { All OnPlate points.now }
+    requires landed { (c.first.0 ≤ reference_of landing) × (reference_of landing ≤ c.first.0 + c.last) }
+    requires within { c.first.0 + c.last < 65536 }
+    requires held { 2 * (c.first.0 + c.last) + 1 < length points.now }
+    ensures same { SameWriter writer.old writer.new }
+    ensures written { Written writer.old writer.new result }
+    ensures adds { Adds points.now writer.old writer.new result
+        (λ steps. drawn (kind_of landing) steps (contour_of c) (reference_of landing - c.first.0)) }
 {
-    let v = l.vertex;
-    let first = l.contour.first;
-    let e = v.0 - first.0;
-    let mark = Mark {
-        kind: l.kind,
-        reference: v.0,
-    };
-    let p = point_at(points, v);
-    let landed = put(g, room, &mut *path, &mut *marks, &mut *work, count, p, mark);
-    let n = l.contour.last - e;
-    let up = cut_up(
-        points,
-        g,
-        room,
-        &mut *path,
-        &mut *marks,
-        &mut *work,
-        landed,
-        v,
-        n,
-    );
+    let place = PathPlace(writer.count);
+    let v = Vertex(landing.reference());
+    writer.put(point_at(points, v), landing)?;
+    let e = v.0 - c.first.0;
+    cut_up(points, &mut *writer, v, c.last - e)?;
     if e == 0 {
-        return up;
+        return Ok(());
     }
-    let place = PathPlace(count);
-    let back = walk_back(g, room, &mut *path, &mut *marks, &mut *work, up, place);
-    cut_down(
-        points,
-        g,
-        room,
-        &mut *path,
-        &mut *marks,
-        &mut *work,
-        back,
-        first,
-        e,
-    )
+    writer.walk_back(place)?;
+    cut_down(points, &mut *writer, c.first, e)
 }

@@ -1,9 +1,12 @@
 -- The two checks, summed up word by word. Assumes nothing.
-use Rattle.std.specs.Prelude.{◌≡◌, List, ◌∷◌, ℕ, suc, ◌+◌, ◌-◌, ◌*◌, ◌%◌, ◌≤◌, ◌<◌, drop}
-use Rattle.std.proofs.Common.{ap, arith, drop-drop}
+use Rattle.std.specs.Prelude.{◌≡◌, List, ◌∷◌, ℕ, suc, ◌+◌, ◌-◌, ◌*◌, ◌%◌, ◌≤◌, ◌<◌, length, get_or, take, drop}
+use Rattle.std.proofs.Common.{sym, ap, ◌∙◌, arith, drop-drop, length-take, length-take-le, take_all, take-append-drop}
+use Rattle.std.specs.Simd.{first_chunks}
 use Rattle.rules.specs.Tools.{sum}
-use Rattle.little_endian.specs.Bytes.{part, field, words}
+use Rattle.little_endian.specs.Bytes.{from_bytes, part, field, words}
+use Rattle.little_endian.specs.Numbers.{words_front}
 use Rattle.file_format.specs.PlateFile.{sums, first_check, second_check}
+use Rattle.file_laws.specs.Chunks.{chunk_at}
 
 -- the checks of a block
 pub record Checked (bs : List ℕ) (first second : ℕ) : Type 0 where
@@ -60,3 +63,17 @@ summed_all bs {first} {second} {i} s h =
       first_is = rw (← t.first_is) (ap (λ (n : ℕ). n % 4294967296) (omega arith));
       second_is = rw (← t.second_is) (ap (λ (n : ℕ). n % 4294967296) (omega arith));
     }
+
+-- the words of the first 504 bytes are those of all, which are more
+pub checked_front : (bs : List ℕ) {first second : ℕ} → 504 ≤ length bs → Checked (take 504 bs) first second → Checked bs first second
+checked_front bs h c =
+    let e : words 126 bs ≡ words 126 (take 504 bs) =
+    ap (words 126) (sym (take-append-drop 504 bs)) ∙ words_front 126 (take 504 bs) (drop 504 bs) (length-take-le 504 bs h) in
+    record { first_is = c.first_is ∙ ap first_check (sym e); second_is = c.second_is ∙ ap second_check (sym e) }
+
+-- number i of the words as chunks
+pub word_in : (bs : List ℕ) (n i : ℕ) (d : List ℕ) → i < n → field 0 4 (get_or (first_chunks 4 n bs) i d) ≡ field (4 * i) 4 bs
+unfolding field part
+word_in bs n i d h =
+    let p = drop (4 * i) bs in
+    rw (chunk_at 4 n i bs d h) (ap from_bytes (take_all 4 (take 4 p) (omega (arith, length-take 4 p))))

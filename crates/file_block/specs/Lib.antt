@@ -1,3 +1,4 @@
 pub mod Checks
 pub mod Writing
 pub mod Testing
+pub mod Parts

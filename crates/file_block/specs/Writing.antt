@@ -23,11 +23,11 @@ clear_step b₀ from k h e =
     let q : from + m ≡ k = omega arith in
     rw (g, bytes_append m 1 0, zero-div (256 ^ m), sets_append b₀ from (to_bytes m 0) (0 ∷ []), bytes_length m 0, q, ← e)
 
-sets_whole : (b vs : List ℕ) → length vs ≤ length b → sets b 0 vs ≡ vs ++ drop (length vs) b
+pub sets_whole : (b vs : List ℕ) → length vs ≤ length b → sets b 0 vs ≡ vs ++ drop (length vs) b
 sets_whole b vs h = let z : 0 + length vs ≡ length vs = omega arith in rw z at (sets-eq vs b 0 (omega arith))
 
 -- one more part behind those that were written
-more_written : (b p q : List ℕ) {r s : List ℕ} (k : ℕ) → r ≡ sets b 0 p → length p ≡ k → s ≡ sets r k q → s ≡ sets b 0 (p ++ q)
+pub more_written : (b p q : List ℕ) {r s : List ℕ} (k : ℕ) → r ≡ sets b 0 p → length p ≡ k → s ≡ sets r k q → s ≡ sets b 0 (p ++ q)
 more_written b p q k e l f = let z : k ≡ 0 + length p = omega arith in f ∙ rw (e, z) (sym (sets_append b 0 p q))
 
 module _ (b : List ℕ) (i n : ℕ) (xs : List Float) (few : n ≤ 31) (two : length xs ≡ 2 * n) where

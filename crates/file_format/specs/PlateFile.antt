@@ -4,12 +4,8 @@
 -- A block has 512 bytes: 0 to 3 its number, 4 and 5 its count of points, 6 and 7 zero, 8 to 503 its 31 places, 504 to 507 the first check, 508 to 511 the second.
 use Rattle.std.specs.Prelude.{◌≡◌, Bool, not, ◌&&◌, List, [], ◌∷◌, ◌++◌, ℕ, zero, suc, ◌+◌, ◌-◌, ◌*◌, ◌/◌, ◌%◌, ◌^◌, ◌≤◌, leb, ltb, eqb, length, take, drop, Float}
 use Rattle.rules.specs.Tools.{pick, sum}
-use Rattle.rules.specs.HandedOver.{AllF64, most_path_points, Answer, gives, refuses, refusal, plate_limit, first_off, RefusalRow, row, refused_by, off_the_plate, no_room, over, written}
+use Rattle.rules.specs.HandedOver.{AllF64, most_path_points, Answer, gives, refuses, plate_limit, first_off, RefusalRow, row, refused_by, off_the_plate, no_room, over, written}
 use Rattle.little_endian.specs.Bytes.{AllBytes, to_bytes, field, words, patterns, floats}
-use Rattle.file_format.specs.declared.WriteAnswer.{WriteAnswer}
-use Rattle.file_format.specs.declared.WriteAnswer.TheVariants.{Written, NotWritten}
-use Rattle.file_format.specs.declared.ReadAnswer.{ReadAnswer}
-use Rattle.file_format.specs.declared.ReadAnswer.TheVariants.{Read, NotRead}
 
 -- ---- the two checks
 
@@ -133,15 +129,6 @@ read_call file path =
     let r = read_file file in
     let a = read_into (length path) r in
     record { answer = a; path = written a (coordinates_of r) path }
-
--- the paper's values for each case of an answer
-unfoldable pub write_answer : WriteAnswer → Answer ℕ
-write_answer (Written n) = gives n
-write_answer (NotWritten r) = refusal r
-
-unfoldable pub read_answer : ReadAnswer → Answer ℕ
-read_answer (Read n) = gives n
-read_answer (NotRead r) = refusal r
 
 -- ---- what is to be proved
 

@@ -1,7 +1,5 @@
-// The declared types of the plate file (document 02, ticket 2), and the sizes of its blocks.
+// The sizes of a plate file's blocks (document 02, ticket 2).
 #![tactic(auto)]
-
-use rules::Refusal;
 
 pub const BLOCK_BYTES: usize = 512;
 
@@ -17,17 +15,3 @@ pub const PLACES_AT: usize = 8;
 pub const FIRST_CHECK_AT: usize = 504;
 
 pub const SECOND_CHECK_AT: usize = 508;
-
-// How many bytes the file has.
-#[derive(Clone, Copy)]
-pub enum WriteAnswer {
-    Written(u32),
-    NotWritten(Refusal),
-}
-
-// How many points were read.
-#[derive(Clone, Copy)]
-pub enum ReadAnswer {
-    Read(u32),
-    NotRead(Refusal),
-}

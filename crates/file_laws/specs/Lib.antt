@@ -1,8 +1,10 @@
+pub mod Chunks
 pub mod Lengths
 pub mod Block
 pub mod File
 pub mod Writing
 pub mod Counting
 pub mod Copying
+pub mod Parts
 pub mod Calls
 pub mod Theorem

@@ -28,7 +28,7 @@ block_coordinates xs i n even e = go (dec_le (31 * i + 31) (length xs / 2))
         let b : length (drop (62 * i) xs) ≤ 62 = omega arith in
         take_all (2 * n) (drop (62 * i) xs) a ∙ sym (take_all 62 (drop (62 * i) xs) b)
 
-blocks_snoc : (n j : ℕ) (xs : List Float) → blocks (n + 1) j xs ≡ blocks n j xs ++ block (j + n) (take 62 (drop (62 * n) xs))
+pub blocks_snoc : (n j : ℕ) (xs : List Float) → blocks (n + 1) j xs ≡ blocks n j xs ++ block (j + n) (take 62 (drop (62 * n) xs))
 unfolding blocks
 blocks_snoc zero j xs = rw (add-zero j) (append-nil (block j (take 62 xs)))
 blocks_snoc (suc n) j xs =

@@ -18,22 +18,18 @@ use square_root::square_root;
 fn is_non_negative(x: f64) -> bool
     ensures { result ≡ non_negative x }
 {
-    if is_finite(x) {
-        return f64::to_bits(x) < 9223372036854775808;
-    }
-    false
+    is_finite(x) && x.is_sign_positive()
 }
 
 #[unsafe(no_mangle)]
 pub extern "C" fn twillharbor_float_square_plus(x: f64, y: f64) -> f64
     ensures { result ≡ square_plus x y }
 {
-    if is_finite(x) {
-        if is_non_negative(y) {
-            return square_plus(x, y);
-        }
+    if is_finite(x) && is_non_negative(y) {
+        square_plus(x, y)
+    } else {
+        f64::NAN
     }
-    0.0 / 0.0
 }
 
 #[unsafe(no_mangle)]
@@ -41,9 +37,10 @@ pub extern "C" fn twillharbor_float_square_root(x: f64) -> f64
     ensures { result ≡ square_root x }
 {
     if is_non_negative(x) {
-        return square_root(x);
+        square_root(x)
+    } else {
+        f64::NAN
     }
-    0.0 / 0.0
 }
 
 #[unsafe(no_mangle)]

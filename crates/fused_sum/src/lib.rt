@@ -19,7 +19,7 @@ fn add_shifted(p: Wide, q: Wide, d: u64, e: u64) -> f64
     ensures { result ≡ round binary64 false (wide p.hi p.lo * 2 ^ e + wide q.hi q.lo * 2 ^ (e - d)) (2 ^ 2276) }
 {
     let c = shift_right(q, d);
-    let w = plus(p, Wide { hi: c.hi, lo: c.lo });
+    let w = plus(p, c.value);
     round_pack_wide(w, c.sticky, e + 64)
 }
 
@@ -42,7 +42,7 @@ fn normalized_sum(a: Scaled, b: Scaled) -> f64
     }
 }
 
-// Rust's x.mul_add(x, y).
+// Rust's x.mul_add(x, y), over bits, as the documents ask.
 pub fn square_plus(x: f64, y: f64) -> f64
     requires { T (finite x) × T (non_negative y) }
     ensures { result ≡ mul_add binary64 x x y }

@@ -1,3 +1,4 @@
 pub mod Sane
+pub mod Props
 pub mod Numbers
 pub mod PlateGrid

@@ -7,6 +7,7 @@ ghost use Rattle.rules.specs.GridAndNearest.{cell_size, cells_along, grid_of, in
 ghost use Rattle.rules.specs.SamplesAndCache.{cell_number};
 ghost use Rattle.bounds.specs.Boxes.{Sound};
 ghost use Rattle.grid.specs.Sane.{Sane};
+ghost use Rattle.grid.specs.Props.{sane_prop};
 
 use compare::{greater, lesser};
 use magnitude::cast::{ceiling, truncated};
@@ -17,6 +18,13 @@ use rules::{BoundingBox, Point, SpatialGrid};
 pub struct Cell {
     pub col: u32,
     pub row: u32,
+}
+
+// A grid that is sane.
+#[derive(Clone, Copy)]
+pub struct Grid {
+    pub spatial: SpatialGrid,
+    ghost sane: { Sane spatial } by { sane_prop spatial },
 }
 
 // The box with one point more.
@@ -42,10 +50,8 @@ pub fn polyline_bounding_box(points: &[f64]) -> BoundingBox
         max_x: -infinity,
         max_y: -infinity,
     };
-    let mut i: usize = 0;
-    while i + 1 < points.len() {
-        b = widened(b, points[i], points[i + 1]);
-        i += 2;
+    for pair in points.chunks_exact(2) {
+        b = widened(b, pair[0], pair[1]);
     }
     b
 }
@@ -66,47 +72,52 @@ fn cells_along(size: f64, origin: f64, greatest: f64) -> u32
     ceiling((greatest - origin + size) / size) + 1
 }
 
-// The grid over a box, with a margin of one cell around it.
-pub fn new(b: BoundingBox) -> SpatialGrid
-    requires { Sound b }
-    ensures { (result ≡ grid_of b) × Sane result }
-{
-    let size = cell_size(b);
-    let origin_x = b.min_x - size;
-    let origin_y = b.min_y - size;
-    SpatialGrid {
-        cell_size: size,
-        inv_cell_size: 1.0 / size,
-        origin_x,
-        origin_y,
-        cols: cells_along(size, origin_x, b.max_x),
-        rows: cells_along(size, origin_y, b.max_y),
-    }
-}
-
 // A point's column, or row, of `cells` many.
 fn index_along(origin: f64, inverse: f64, cells: u32, x: f64) -> u32
     requires { 0 < cells }
     ensures { (result ≡ index_along origin inverse cells x) × (result < cells) }
 {
     let index = truncated((x - origin) * inverse);
-    if index < cells { index } else { cells - 1 }
+    index.min(cells - 1)
 }
 
-pub fn cell_of(g: SpatialGrid, p: Point) -> Cell
-    requires { Sane g }
-    ensures { (result.col ≡ (cell_of g p).col) × (result.row ≡ (cell_of g p).row) × (result.col < g.cols) × (result.row < g.rows) }
-{
-    Cell {
-        col: index_along(g.origin_x, g.inv_cell_size, g.cols, p.x),
-        row: index_along(g.origin_y, g.inv_cell_size, g.rows, p.y),
+impl Grid {
+    // The grid over a box, with a margin of one cell around it.
+    pub fn new(b: BoundingBox) -> Grid
+        requires { Sound b }
+        ensures { result.spatial ≡ grid_of b }
+    {
+        let size = cell_size(b);
+        let origin_x = b.min_x - size;
+        let origin_y = b.min_y - size;
+        let spatial = SpatialGrid {
+            cell_size: size,
+            inv_cell_size: 1.0 / size,
+            origin_x,
+            origin_y,
+            cols: cells_along(size, origin_x, b.max_x),
+            rows: cells_along(size, origin_y, b.max_y),
+        };
+        Grid { spatial }
     }
-}
 
-// A cell's number, row by row.
-pub fn cell_number(g: SpatialGrid, c: Cell) -> u32
-    requires { (Sane g) × (c.col < g.cols) × (c.row < g.rows) }
-    ensures { (result ≡ cell_number g (record { col = c.col; row = c.row })) × (result < g.cols * g.rows) × (result < 2916) }
-{
-    c.row * g.cols + c.col
+    pub fn cell_of(self, p: Point) -> Cell
+        ensures { (result.col ≡ (cell_of self.spatial p).col) × (result.row ≡ (cell_of self.spatial p).row)
+            × (result.col < self.spatial.cols) × (result.row < self.spatial.rows) }
+    {
+        let g = self.spatial;
+        Cell {
+            col: index_along(g.origin_x, g.inv_cell_size, g.cols, p.x),
+            row: index_along(g.origin_y, g.inv_cell_size, g.rows, p.y),
+        }
+    }
+
+    // A cell's number, row by row.
+    pub fn cell_number(self, c: Cell) -> u32
+        requires { (c.col < self.spatial.cols) × (c.row < self.spatial.rows) }
+        ensures { (result ≡ cell_number self.spatial (record { col = c.col; row = c.row })) × (result < self.spatial.cols * self.spatial.rows)
+            × (result < 2916) }
+    {
+        c.row * self.spatial.cols + c.col
+    }
 }

@@ -13,34 +13,30 @@ ghost use Rattle.path.specs.Lists.{All};
 ghost use Rattle.path.specs.FiniteDistances.{OnPlate};
 ghost use Rattle.bounds.specs.Boxes.{Sound};
 ghost use Rattle.layout.specs.Parts.{KeptFrom};
-ghost use Rattle.grid.specs.Sane.{Sane};
 ghost use Rattle.samples.specs.Owners.{MarkedAll};
 ghost use Rattle.history.specs.History.{Ready};
 ghost use Rattle.grid_c.specs.Results.{accepted, grid_result, no_grid, center_result, has_room, written, place_number, squared_number, ask, has_query_room};
 
-use grid::{cell_number, cell_of, polyline_bounding_box};
-use plate::{Checked, check_contours};
-use rules::{Nearest, PathPlace, SpatialGrid, Vertex};
+use grid::{Grid, polyline_bounding_box};
+use history::PathSoFar;
+use plate::check_contours;
+use rules::{Nearest, PathPlace, Point, SpatialGrid, Vertex, path_point, point_at};
 use samples::mark_samples;
-use start::{image_center, point_at};
+use start::image_center;
 
-// The number of points of a plate that refusals 1 to 4 let pass, else 0.
+// The number of points of a plate that refusals 1 to 4 let pass, else 0: a plate of no point has no grid either.
 pub fn accepted_points(points: &[f64], lengths: &[u32]) -> u32
     ensures { result ≡ accepted points.now lengths.now }
 {
-    let checked = check_contours(points, lengths);
-    let Checked::Sound(n) = checked else {
-        return 0;
-    };
-    n
+    check_contours(points, lengths).unwrap_or(0)
 }
 
 // The grid over a plate's points.
-pub fn grid_for(points: &[f64]) -> SpatialGrid
+pub fn grid_for(points: &[f64]) -> Grid
     requires { Sound (box points.now) }
-    ensures { (result ≡ grid_of (box points.now)) × Sane result }
+    ensures { result.spatial ≡ grid_of (box points.now) }
 {
-    grid::new(polyline_bounding_box(points))
+    Grid::new(polyline_bounding_box(points))
 }
 
 // Whether a plate of n points has a grid, and a slice has an entry for each.
@@ -51,7 +47,7 @@ fn has_room(n: u32, room: usize) -> bool
 }
 
 #[repr(C)]
-#[derive(Clone, Copy)]
+#[derive(Clone, Copy, Default)]
 pub struct GridResult {
     pub cell_size: f64,
     pub inv_cell_size: f64,
@@ -61,32 +57,31 @@ pub struct GridResult {
     pub rows: u32,
 }
 
-// The grid of a plate, or zeros where it has none.
-#[unsafe(no_mangle)]
-pub extern "C" fn twillharbor_grid_of(points: &[f64], lengths: &[u32]) -> GridResult
-    ensures { let xs = points.now in
-        result ≡ pick (ltb 0 (accepted xs lengths.now)) (grid_result (grid_of (box xs))) no_grid }
-{
-    let n = accepted_points(points, lengths);
-    if 0 < n {
-        let g = grid_for(points);
-        return GridResult {
+impl From<SpatialGrid> for GridResult {
+    ghost from_gives = { λ g r. r ≡ grid_result g };
+
+    fn from(g: SpatialGrid) -> GridResult {
+        GridResult {
             cell_size: g.cell_size,
             inv_cell_size: g.inv_cell_size,
             origin_x: g.origin_x,
             origin_y: g.origin_y,
             cols: g.cols,
             rows: g.rows,
-        };
+        }
     }
-    GridResult {
-        cell_size: 0.0,
-        inv_cell_size: 0.0,
-        origin_x: 0.0,
-        origin_y: 0.0,
-        cols: 0,
-        rows: 0,
+}
+
+// The grid of a plate, or zeros where it has none.
+#[unsafe(no_mangle)]
+pub extern "C" fn twillharbor_grid_of(points: &[f64], lengths: &[u32]) -> GridResult
+    ensures { let xs = points.now in
+        result ≡ pick (ltb 0 (accepted xs lengths.now)) (grid_result (grid_of (box xs))) no_grid }
+{
+    if accepted_points(points, lengths) == 0 {
+        return GridResult::default();
     }
+    grid_for(points).spatial.into()
 }
 
 #[repr(C)]
@@ -96,23 +91,30 @@ pub struct CenterResult {
     pub y: f64,
 }
 
+impl From<Point> for CenterResult {
+    ghost from_gives = { λ p r. r ≡ center_result p };
+
+    fn from(p: Point) -> CenterResult {
+        CenterResult { x: p.x, y: p.y }
+    }
+}
+
 // The centre, from which Outside and Inside take distances.
 #[unsafe(no_mangle)]
 pub extern "C" fn twillharbor_grid_center(width: u32, height: u32) -> CenterResult
     ensures { result ≡ center_result (centre width height) }
 {
-    let p = image_center(width, height);
-    CenterResult { x: p.x, y: p.y }
+    image_center(width, height).into()
 }
 
 // Writes the number of the cell of each of n vertices.
-fn number_cells(g: SpatialGrid, points: &[f64], cells: &mut [u32], n: u32)
-    requires { (Sane g) × (2 * n ≤ length points.now) × (n ≤ length cells.old) }
-    ensures { cells.new ≡ written (cell_at (at points.now) g) n cells.old }
+fn number_cells(g: Grid, points: &[f64], cells: &mut [u32], n: u32)
+    requires { (2 * n ≤ length points.now) × (n ≤ length cells.old) }
+    ensures { cells.new ≡ written (cell_at (at points.now) g.spatial) n cells.old }
 {
     for v in 0..n {
         let p = point_at(points, Vertex(v));
-        cells[v as usize] = cell_number(g, cell_of(g, p));
+        cells[v as usize] = g.cell_number(g.cell_of(p));
     }
 }
 
@@ -132,29 +134,29 @@ pub extern "C" fn twillharbor_grid_cells(points: &[f64], lengths: &[u32], cells:
     true
 }
 
-// Puts the points from place `start` up to `count` on the path, in order: place k is vertex k.
-pub fn insert_run(g: SpatialGrid, points: &[f64], work: &mut [u32], start: u32, count: u32)
-    requires { (Sane g) × (All OnPlate points.now) × (2 * count ≤ length points.now) × (count ≤ 65536)
-        × (2916 + count ≤ length work.old) × (start ≤ count) × (Ready g points.now work.old start) }
-    ensures { (Ready g points.now work.new count) × (KeptFrom (2916 + count) work.old work.new) }
+// Puts the points from place `start` on on the path, in order: place k is vertex k.
+pub fn insert_run(g: Grid, path: &PathSoFar<'_>, work: &mut [u32], start: u32)
+    requires { (All OnPlate path.now.points.now) × (2 * path.now.count ≤ length path.now.points.now) × (path.now.count ≤ 65536)
+        × (2916 + path.now.count ≤ length work.old) × (start ≤ path.now.count) × (Ready g.spatial path.now.points.now work.old start) }
+    ensures { (Ready g.spatial path.now.points.now work.new path.now.count) × (KeptFrom (2916 + path.now.count) work.old work.new) }
 {
-    for k in start..count {
-        let p = point_at(points, Vertex(k));
+    for k in start..path.count {
+        let p = path_point(path.points, PathPlace(k));
         history::insert(g, &mut *work, PathPlace(k), p);
     }
 }
 
-// Makes the first `count` points the path.
-fn insert_all(g: SpatialGrid, points: &[f64], work: &mut [u32], count: u32)
-    requires { (Sane g) × (All OnPlate points.now) × (2 * count ≤ length points.now) × (count ≤ 65536)
-        × (2916 + count ≤ length work.old) }
-    ensures { Ready g points.now work.new count }
+// Makes the path's points its history.
+fn insert_all(g: Grid, path: &PathSoFar<'_>, work: &mut [u32])
+    requires { (All OnPlate path.now.points.now) × (2 * path.now.count ≤ length path.now.points.now) × (path.now.count ≤ 65536)
+        × (2916 + path.now.count ≤ length work.old) }
+    ensures { Ready g.spatial path.now.points.now work.new path.now.count }
 {
     history::clear(&mut *work);
-    insert_run(g, points, &mut *work, 0, count);
+    insert_run(g, path, &mut *work, 0);
 }
 
-// One more than the place that was found, or 0.
+// One more than the place that was found, or 0, as the slice that C reads has it.
 fn place_number(answer: Nearest) -> u32
     requires { place_number answer ≤ 65536 }
     ensures { result ≡ place_number answer }
@@ -165,7 +167,7 @@ fn place_number(answer: Nearest) -> u32
     }
 }
 
-// The squared distance that was found, or 0.
+// The squared distance that was found, or 0, as the slice that C reads has it.
 fn squared_number(answer: Nearest) -> f64
     ensures { result ≡ squared_number answer }
 {
@@ -175,25 +177,18 @@ fn squared_number(answer: Nearest) -> f64
     }
 }
 
-// Queries the path of `count` points for every vertex.
-fn query_all(
-    g: SpatialGrid,
-    points: &[f64],
-    work: &[u32],
-    count: u32,
-    places: &mut [u32],
-    squared: &mut [f64],
-)
-    requires { (Sane g) × (All OnPlate points.now) × (length points.now ≤ 131072) × (Ready g points.now work.now count)
-        × (length points.now / 2 ≤ length places.old) × (length points.now / 2 ≤ length squared.old) }
-    ensures { let xs = points.now in let n = length xs / 2 in
-        (places.new ≡ written (λ v. place_number (ask g xs count v)) n places.old)
-        × (squared.new ≡ written (λ v. squared_number (ask g xs count v)) n squared.old) }
+// Queries the path for every vertex.
+fn query_all(g: Grid, path: &PathSoFar<'_>, work: &[u32], places: &mut [u32], squared: &mut [f64])
+    requires { (All OnPlate path.now.points.now) × (length path.now.points.now ≤ 131072) × (Ready g.spatial path.now.points.now work.now path.now.count)
+        × (length path.now.points.now / 2 ≤ length places.old) × (length path.now.points.now / 2 ≤ length squared.old) }
+    ensures { let xs = path.now.points.now in let n = length xs / 2 in
+        (places.new ≡ written (λ v. place_number (ask g.spatial xs path.now.count v)) n places.old)
+        × (squared.new ≡ written (λ v. squared_number (ask g.spatial xs path.now.count v)) n squared.old) }
 {
-    let n = (points.len() / 2) as u32;
+    let n = (path.points.len() / 2) as u32;
     for v in 0..n {
-        let q = point_at(points, Vertex(v));
-        let answer = nearest::nearest(g, points, work, count, q);
+        let q = point_at(path.points, Vertex(v));
+        let answer = nearest::nearest(g, path, work, q);
         places[v as usize] = place_number(answer);
         squared[v as usize] = squared_number(answer);
     }
@@ -203,16 +198,7 @@ fn query_all(
 fn has_query_room(n: u32, count: u32, work: usize, places: usize, squared: usize) -> bool
     ensures { result ≡ has_query_room n count work places squared }
 {
-    if !has_room(n, places) {
-        return false;
-    }
-    if squared < n as usize {
-        return false;
-    }
-    if n < count {
-        return false;
-    }
-    2916 + count as usize <= work
+    has_room(n, places) && n as usize <= squared && count <= n && 2916 + count as usize <= work
 }
 
 // Writes what the query answers for each vertex, where the first `count` points are the path.
@@ -237,8 +223,9 @@ pub extern "C" fn twillharbor_grid_nearest(
         return false;
     }
     let g = grid_for(points);
-    insert_all(g, points, &mut *work, count);
-    query_all(g, points, &*work, count, places, squared);
+    let path = PathSoFar { points, count };
+    insert_all(g, &path, &mut *work);
+    query_all(g, &path, &*work, places, squared);
     true
 }
 
@@ -259,6 +246,11 @@ pub extern "C" fn twillharbor_grid_samples(
         return false;
     }
     let g = grid_for(points);
-    mark_samples(points, lengths, &mut owners[..n as usize], g.cell_size);
+    mark_samples(
+        points,
+        lengths,
+        &mut owners[..n as usize],
+        g.spatial.cell_size,
+    );
     true
 }

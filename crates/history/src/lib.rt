@@ -4,11 +4,17 @@
 
 ghost use Rattle.std.specs.Prelude.{◌≡◌, ℕ, ◌+◌, ◌≤◌, ◌<◌, length};
 ghost use Rattle.layout.specs.Parts.{KeptFrom};
-ghost use Rattle.grid.specs.Sane.{Sane};
 ghost use Rattle.history.specs.History.{Chained, inserted};
 
-use grid::{cell_number, cell_of};
-use rules::{PathPlace, Point, SpatialGrid};
+use grid::Grid;
+use rules::{PathPlace, Point};
+
+// The path so far: the first `count` points of `points`. The whole slice, since a part of it would have to be cut for each query.
+#[derive(Clone, Copy)]
+pub struct PathSoFar<'a> {
+    pub points: &'a [f64],
+    pub count: u32,
+}
 
 // Empties every chain.
 pub fn clear(work: &mut [u32])
@@ -16,15 +22,15 @@ pub fn clear(work: &mut [u32])
     ensures { (length work.new ≡ length work.old)
         × ((cell : ℕ → ℕ) → Chained work.new cell 0) × (KeptFrom 2916 work.old work.new) }
 {
-    layout::clear(&mut *work, 0, 2916);
+    work[0..2916].fill(0);
 }
 
 // Puts a path place, at which p is, in front of its cell's chain.
-pub fn insert(g: SpatialGrid, work: &mut [u32], place: PathPlace, p: Point)
-    requires { (Sane g) × (place.0 < 1048576) × (2916 + place.0 < length work.old) }
-    ensures { work.new ≡ inserted g work.old place.0 p }
+pub fn insert(g: Grid, work: &mut [u32], place: PathPlace, p: Point)
+    requires { (place.0 < 1048576) × (2916 + place.0 < length work.old) }
+    ensures { work.new ≡ inserted g.spatial work.old place.0 p }
 {
-    let cell = cell_number(g, cell_of(g, p)) as usize;
+    let cell = g.cell_number(g.cell_of(p)) as usize;
     let i = place.0 as usize;
     work[2916 + i] = work[cell];
     work[cell] = place.0 + 1;

@@ -6,6 +6,7 @@ use native.Mathlib.Omega.{arith}
 use lib.Ieee.{Float}
 use lib.ListN.{length, drop, length-map}
 use lib.Seq.{take_all}
+use Rattle.std.specs.Prelude.{Result, Ok, Err, IsErr}
 use Rattle.rules.specs.Tools.{up_from}
 use Rattle.rules.specs.HandedOver.{Plate, Contour, at, over, vertex_at}
 use Rattle.rules.specs.GridAndNearest as rules
@@ -20,6 +21,9 @@ use Rattle.history.specs.History.{points}
 use Rattle.history.specs.Points.{points_are}
 use Rattle.path_points.specs.Wrote.{Wrote, wrote_at, wrote_full}
 use Rattle.path_points.specs.Pen.{Grows}
+use Rattle.path_points.specs.Writing.{Adds}
+use Rattle.path_points.specs.declared.Full.{Full}
+use Rattle.path_points.specs.declared.PathWriter.{PathWriter}
 use Rattle.emission.specs.Drawn.{drawn, emit_is}
 
 -- the points that the history has are those of the steps
@@ -74,3 +78,9 @@ module _ (xs : List Float) (p : Plate) (same : p.points ≡ xs) (g : SpatialGrid
         Grows xs room count k'' path path'' ms ms'' (λ ss. entered p g ss w)
     enter_drawn k'' path'' ms'' on steps was marked u =
         rw (entered_drawn steps was marked u) (on (steps ++ walk_back steps h) was marked (back steps was marked u))
+
+-- whichever error says that the path is full
+pub adds_err : (xs : List Float) (w w' : PathWriter) (f : List Step → List Step) (x : Full) → Adds xs w w' (Err x) f →
+    (r : Result (Unit {0}) Full) → IsErr r → Adds xs w w' r f
+adds_err xs w w' f x a (Ok _) n = absurd cc
+adds_err xs w w' f x a (Err _) n = a

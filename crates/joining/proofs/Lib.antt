@@ -8,3 +8,4 @@ pub mod Looping
 pub mod Beginning
 pub mod Starting
 pub mod Leading
+pub mod Turning

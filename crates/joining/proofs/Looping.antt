@@ -6,6 +6,8 @@ use Prim.Native.Nat.{ℕ, ◌+◌, ◌≤◌, ◌<◌}
 use native.Mathlib.Omega.{arith}
 use lib.Ieee.{Float}
 use lib.ListN.{length}
+use Rattle.std.specs.Prelude.{Some, None}
+use Rattle.std.specs.Prelude as prelude
 use Rattle.rules.specs.Tools.{without}
 use Rattle.rules.specs.HandedOver.{Plate, Contour, vertex_at}
 use Rattle.rules.specs.SamplesAndCache.{Waiting, update, cells_around}
@@ -22,10 +24,7 @@ use Rattle.history.specs.History.{points}
 use Rattle.caches.specs.Querying.{Querying}
 use Rattle.choosing.specs.Lined.{Lined}
 use Rattle.choosing.specs.Picks.{Picks}
-use Rattle.choosing.specs.declared.Chosen.{Chosen}
-use Rattle.choosing.specs.declared.Chosen.TheVariants.{Candidate, Nobody}
-use Rattle.rules.specs.declared.Vertex.{Vertex}
-use Rattle.start.specs.declared.Contour as code
+use Rattle.choosing.specs.declared.Candidate.{Candidate}
 use Rattle.start.specs.Oriented.{contour_of}
 use Rattle.path_points.specs.Pen.{Pen, Grows}
 use Rattle.joining.specs.Lines.{Lines}
@@ -35,8 +34,8 @@ use Rattle.joining.proofs.Joins.{drawn_querying, drawn_flags, join_next, full_wr
 use Rattle.joining.proofs.Extends.{waiting_after, join_none}
 
 -- some plate's joining is at this point
-abbrev pub Some : List Float → List ℕ → SpatialGrid → Layout → ℕ → ℕ → ℕ → List Float → List ℕ → List ℕ → List Float → Type 0
-Some xs ls g lay room turn count path ms work ds =
+abbrev pub SomeJoining : List Float → List ℕ → SpatialGrid → Layout → ℕ → ℕ → ℕ → List Float → List ℕ → List ℕ → List Float → Type 0
+SomeJoining xs ls g lay room turn count path ms work ds =
     (p : Plate) × (ws : List Waiting) × (steps : List Step) × (was : List Float) × (marked : List ℕ) × (p.points ≡ xs) × (p.layers ≡ ls)
     × (lay.contours ≤ length ls) × Joining p g lay room turn count path ms work ds ws steps was marked
 
@@ -48,7 +47,7 @@ Left p g lay room turn count path ms work ds ws₀ steps₀ was marked =
 
 pub record Looping (xs : List Float) (ls : List ℕ) (g : SpatialGrid) (lay : Layout) (room count : ℕ) (path : List Float) (ms work : List ℕ) (ds : List Float)
     (turn k : ℕ) (path' : List Float) (ms' work' : List ℕ) (ds' : List Float) : Type 0 where
-  pub can : Some xs ls g lay room turn k path' ms' work' ds'
+  pub can : SomeJoining xs ls g lay room turn k path' ms' work' ds'
   pub left : (p : Plate) (ws : List Waiting) (steps : List Step) (was : List Float) (marked : List ℕ) → p.points ≡ xs → p.layers ≡ ls →
       Joining p g lay room 0 count path ms work ds ws steps was marked → Left p g lay room turn k path' ms' work' ds' ws steps was marked
 
@@ -83,29 +82,29 @@ module _ (xs : List Float) (ls : List ℕ) (g : SpatialGrid) (lay : Layout) (roo
   -- ---- a choice
 
   -- whatever is chosen by the slices is what the rules choose
-  abbrev pub Chooses : Chosen → Type 0
+  abbrev pub Chooses : prelude.Option Candidate → Type 0
   Chooses r = (p : Plate) (ys : List Float) (f : SpatialGrid) (ws : List Waiting) → p.layers ≡ ls → Lined (from work' lay.waiting) lay.contours ws →
       All (Holds ys f lay ds' work') ws → Picks r (choose p ws)
 
   -- nobody
-  pub loop_ends : Chooses Nobody → Joined xs ls g lay room count path ms work ds k path' ms'
+  pub loop_ends : Chooses None → Joined xs ls g lay room count path ms work ds k path' ms'
   loop_ends n p ws steps was marked e y j =
       let (vs, now, i, q) = h.left p ws steps was marked e y j in
       let none_left = n p p.points g vs y i.lines.lined i.lines.held in
       rw (← e) (rw (q, join_none p g (length vs) vs now none_left) i.wrote)
 
   -- a candidate
-  module _ (c : code.Contour) (v : Vertex) (n : Chooses (Candidate c v)) where
+  module _ (r : Candidate) (n : Chooses (Some r)) where
     entering : (p : Plate) (ws : List Waiting) (steps : List Step) (was : List Float) (marked : List ℕ) → p.layers ≡ ls →
-        Joining p g lay room turn k path' ms' work' ds' ws steps was marked → (w : Waiting) × (choose p ws ≡ some w) × Enters c v.0 w
+        Joining p g lay room turn k path' ms' work' ds' ws steps was marked → (w : Waiting) × (choose p ws ≡ some w) × Enters r.contour r.entry.0 w
     entering p ws steps was marked y j =
         let (w, e, f, a) = n p p.points g ws y j.lines.lined j.lines.held in (w, e, record { contour = f; at = a })
 
-    pub loop_within : Within xs lay c v.0
+    pub loop_within : Within xs lay r.contour r.entry.0
     loop_within =
         let (p, ws, steps, was, marked, e, y, few, j) = h.can in
         let (w, chosen, en) = entering p ws steps was marked y j in
-        rw e at (within p g lay room turn k path' ms' work' ds' ws steps was marked j c v.0 w chosen en)
+        rw e at (within p g lay room turn k path' ms' work' ds' ws steps was marked j r.contour r.entry.0 w chosen en)
 
     pub loop_turn : turn < lay.contours
     loop_turn =
@@ -116,12 +115,12 @@ module _ (xs : List Float) (ls : List ℕ) (g : SpatialGrid) (lay : Layout) (roo
     -- it is drawn
     module _ (k'' : ℕ) (path'' : List Float) (ms'' work'' : List ℕ) (pen : Pen g room k'' path'' ms'' work'') (kept : KeptFrom (2916 + room) work' work'')
         (same_work : length work'' ≡ length work')
-        (drawn : (p : Plate) (w : Waiting) → p.points ≡ xs → w.contour ≡ contour_of c → c.first.0 + w.kept.entry ≡ v.0 →
+        (drawn : (p : Plate) (w : Waiting) → p.points ≡ xs → w.contour ≡ contour_of r.contour → r.contour.first.0 + w.kept.entry ≡ r.entry.0 →
         Grows xs room k k'' path' path'' ms' ms'' (λ ss. entered p g ss w)) where
-      grown : (p : Plate) (w : Waiting) → p.points ≡ xs → Enters c v.0 w → Grows p.points room k k'' path' path'' ms' ms'' (λ ss. entered p g ss w)
+      grown : (p : Plate) (w : Waiting) → p.points ≡ xs → Enters r.contour r.entry.0 w → Grows p.points room k k'' path' path'' ms' ms'' (λ ss. entered p g ss w)
       unfolding contour_of
       grown p w e en =
-          let f : c.first.0 ≡ w.contour.first = ap (λ (z : Contour). z.first) en.contour in
+          let f : r.contour.first.0 ≡ w.contour.first = ap (λ (z : Contour). z.first) en.contour in
           subst (λ (ys : List Float). Grows ys room k k'' path' path'' ms' ms'' (λ ss. entered p g ss w)) (sym e)
           (drawn p w e (sym en.contour) (omega (arith, f, en.at)))
 
@@ -148,17 +147,17 @@ module _ (xs : List Float) (ls : List ℕ) (g : SpatialGrid) (lay : Layout) (roo
           (flags : (f : ℕ) → f < lay.cells → from work''' lay.flags f ≤ turn + 1)
           (settled : (p : Plate) (ws : List Waiting) → p.points ≡ xs → Lines xs g lay ds' work'' ws →
           Lines xs g lay ds''' work'''
-          (map (update p g (points path'' k'') (cells_around (vertex_at p (contour_of c)) g c.last)) (without waiting_number c.number ws))) where
+          (map (update p g (points path'' k'') (cells_around (vertex_at p (contour_of r.contour)) g r.contour.last)) (without waiting_number r.contour.number ws))) where
         settled_of : Plate → List Waiting → List Waiting
         settled_of p ws =
-            map (update p g (points path'' k'') (cells_around (vertex_at p (contour_of c)) g c.last)) (without waiting_number c.number ws)
+            map (update p g (points path'' k'') (cells_around (vertex_at p (contour_of r.contour)) g r.contour.last)) (without waiting_number r.contour.number ws)
 
         next_joining : (p : Plate) (ws : List Waiting) (steps : List Step) (was : List Float) (marked : List ℕ) → p.points ≡ xs →
-            (j : Joining p g lay room turn k path' ms' work' ds' ws steps was marked) (w : Waiting) → choose p ws ≡ some w → Enters c v.0 w →
+            (j : Joining p g lay room turn k path' ms' work' ds' ws steps was marked) (w : Waiting) → choose p ws ≡ some w → Enters r.contour r.entry.0 w →
             Joining p g lay room (turn + 1) k'' path'' ms'' work''' ds''' (waiting_after p g ws steps w) (entered p g steps w) was marked
         unfolding settled_of
         next_joining p ws steps was marked e j w chosen en =
-            joining_next p g lay room turn k path' ms' work' ds' ws steps was marked j w chosen k'' path'' ms'' (grown p w e en) c v.0 en fits work'' pen kept
+            joining_next p g lay room turn k path' ms' work' ds' ws steps was marked j w chosen k'' path'' ms'' (grown p w e en) r.contour r.entry.0 en fits work'' pen kept
             same_work ds''' work''' (subst (λ (ys : List Float). Prepared ys g lay ds''' work''') (sym e) prepared) below flags same'''
             (subst (λ (ys : List Float). Lines ys g lay ds' work'' ws → Lines ys g lay ds''' work''' (settled_of p ws)) (sym e) (settled p ws e))
 

@@ -1,5 +1,5 @@
 -- The start is drawn and the caches are seeded: the joining begins behind it. Assumes nothing.
-use mathlib.Core.Path.{◌≡◌, sym, ap, subst, ◌∙◌}
+use mathlib.Core.Path.{◌≡◌, refl, sym, ap, subst, ◌∙◌}
 use mathlib.Core.Bool.{Bool, true, false}
 use mathlib.Core.List.{List, [], map}
 use Prim.Native.Nat.{ℕ, ◌+◌, ◌-◌, ◌≤◌, ◌<◌}
@@ -7,6 +7,7 @@ use native.Mathlib.Omega.{arith}
 use lib.Dec.{eqb}
 use lib.Ieee.{Float}
 use lib.ListN.{length, length-map}
+use Rattle.std.specs.Prelude.{Result, Ok, Err, IsErr}
 use Rattle.rules.specs.Tools.{pick, without}
 use Rattle.rules.specs.HandedOver.{Plate, contours}
 use Rattle.rules.specs.Start.{Oriented}
@@ -32,6 +33,8 @@ use Rattle.caches.specs.Querying.{Querying}
 use Rattle.choosing.specs.Lining.{lined_same, lined_map, lined_few}
 use Rattle.path_points.specs.Wrote.{Wrote, wrote_full}
 use Rattle.path_points.specs.Pen.{Pen}
+use Rattle.path_points.specs.Writing.{reached}
+use Rattle.path_points.specs.declared.Full.{Full}
 use Rattle.emission.specs.Drawn.{drawn, begin_is}
 use Rattle.joining.specs.Lent.{Lent}
 use Rattle.joining.specs.Lines.{Lines}
@@ -188,3 +191,7 @@ start_pen g room lengths path ms work ds work' l s e r =
       work_room = omega (arith, l.work_room);
       ready = λ m. r;
     }
+
+pub reached_err : (room count : ℕ) (r : Result (Unit {0}) Full) → IsErr r → reached room count r ≡ room + 1
+reached_err room count (Ok _) e = absurd cc
+reached_err room count (Err _) e = refl

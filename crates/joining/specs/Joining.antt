@@ -1,5 +1,5 @@
 -- The joining between two contours: what the lent slices hold of the path so far and of the contours that wait. Definitions only.
-use Rattle.std.specs.Prelude.{◌≡◌, List, map, ℕ, ◌+◌, ◌≤◌, ◌<◌, Float, length}
+use Rattle.std.specs.Prelude.{◌≡◌, List, map, ℕ, ◌+◌, ◌≤◌, ◌<◌, Float, length, Result, Ok, Err}
 use Rattle.rules.specs.HandedOver.{Plate}
 use Rattle.rules.specs.SamplesAndCache.{Waiting}
 use Rattle.rules.specs.RetraceAndMarks.{Step, join_all}
@@ -12,6 +12,7 @@ use Rattle.layout.specs.declared.Layout.{Layout}
 use Rattle.prepare.specs.Prepared.{Prepared}
 use Rattle.path_points.specs.Pen.{Pen}
 use Rattle.path_points.specs.Wrote.{Wrote}
+use Rattle.path_points.specs.declared.Full.{Full}
 use Rattle.joining.specs.Lines.{Lines}
 
 -- ws wait and steps are written, after `turn` contours have entered; the slices held `was` and `marked` before
@@ -41,3 +42,8 @@ Joined xs ls g lay room count path ms work ds r path' ms' =
     (p : Plate) (ws : List Waiting) (steps : List Step) (was : List Float) (marked : List ℕ) → p.points ≡ xs → p.layers ≡ ls →
     Joining p g lay room 0 count path ms work ds ws steps was marked →
     Wrote xs (join_all p g (length ws) ws steps) room r was path' marked ms'
+
+-- how many points the path has, or room + 1 where they are more than there is room for
+abbrev pub path_count : ℕ → Result ℕ Full → ℕ
+path_count room (Ok n) = n
+path_count room (Err _) = room + 1

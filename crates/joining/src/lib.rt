@@ -1,42 +1,42 @@
 // Retrace joining: each contour is entered from the nearest point of the path so far, to which the path is walked back.
 #![tactic(auto)]
 
-ghost use Rattle.std.specs.Prelude.{◌≡◌, ℕ, ◌+◌, ◌*◌, ◌≤◌, ◌<◌, List, map, length, Float};
+ghost use Rattle.std.specs.Prelude.{◌≡◌, ℕ, ◌+◌, ◌*◌, ◌≤◌, ◌<◌, List, map, length, Float, IfOk};
 ghost use Rattle.rules.specs.Tools.{sum, without};
-ghost use Rattle.rules.specs.HandedOver.{Plate, plate, contours, vertex_at};
+ghost use Rattle.rules.specs.HandedOver.{Plate, plate_of, contours, vertex_at};
 ghost use Rattle.rules.specs.SamplesAndCache.{Waiting, waiting, update, cells_around};
 ghost use Rattle.rules.specs.RetraceAndMarks.{place_in, waiting_number, entered, retrace_from, retrace};
 ghost use Rattle.path.specs.Lists.{All};
 ghost use Rattle.path.specs.FiniteDistances.{OnPlate};
-ghost use Rattle.path.specs.Accepted.{Accepted};
-ghost use Rattle.grid.specs.Sane.{Sane};
 ghost use Rattle.start.specs.Oriented.{contour_of, oriented_of};
 ghost use Rattle.packed_contours.specs.Packed.{Placed};
-ghost use Rattle.layout.specs.Parts.{from, KeptBelow, KeptFrom};
-ghost use Rattle.prepare.specs.Prepared.{Prepared};
+ghost use Rattle.layout.specs.Parts.{from, KeptBelow};
+ghost use Rattle.prepare.specs.Framed.{PreparedBy};
 ghost use Rattle.history.specs.History as history;
 ghost use Rattle.history.specs.History.{Ready};
-ghost use Rattle.caches.specs.Querying.{Querying};
+ghost use Rattle.caches.specs.Framed.{QueryingBy};
 ghost use Rattle.path_points.specs.Wrote.{Wrote};
+ghost use Rattle.path_points.specs.Writing.{reached, CanWrite, SameWriter, Written, Adds};
 ghost use Rattle.joining.specs.Lent.{Lent};
 ghost use Rattle.joining.specs.Lines.{Lines};
-ghost use Rattle.joining.specs.Joining.{CanJoin, Joined};
-ghost use Rattle.path_points.specs.Pen.{Pen, Grows};
+ghost use Rattle.joining.specs.Joining.{CanJoin, Joined, path_count};
 
 use caches::{seed_caches, update_nearby_caches};
-use choosing::{Chosen, choose_waiting};
-use emission::{Landing, emit};
-use grid::{new, polyline_bounding_box};
-use history::clear;
-use layout::{Layout, laid_out};
-use mark_kinds::landing_kind;
-use nearest::{nearest, path_point};
-use path_points::walk_back;
+use choosing::{Candidate, choose_waiting};
+use emission::emit;
+use grid::{Grid, polyline_bounding_box};
+use history::{PathSoFar, clear};
+use layout::laid_out;
+use mark_kinds::landing_mark;
+use nearest::nearest;
+use path_points::{Full, PathWriter};
+use plate::checked_input::CheckedInput;
 use prepare::prepare;
-use rules::{Nearest, PathPlace, START, SpatialGrid, StartPointStrategy, Vertex};
-use start::{Contour, Lead, Oriented, choose_start_contour, first_end, point_at};
+use rules::{Mark, Nearest, PathPlace, path_point, point_at};
+use samples::Frame;
+use start::{Contour, Oriented, choose_start_contour, first_end};
 
-// The place that was found. There is one where the path has a point.
+// The place that was found. There is one where the path has a point. `Nearest` is the document's own type.
 fn place_in(found: Nearest) -> PathPlace
     ensures { result.0 ≡ place_in found }
 {
@@ -46,271 +46,202 @@ fn place_in(found: Nearest) -> PathPlace
     }
 }
 
-// The path with one more contour, entered at its vertex v: walked back to the point that is nearest to v now, and on from there.
-fn enter(
-    points: &[f64],
-    g: SpatialGrid,
-    room: u32,
-    path: &mut [f64],
-    marks: &mut [u32],
-    work: &mut [u32],
-    count: u32,
-    c: Contour,
-    v: Vertex,
-) -> u32
-    requires { (Pen g room count path.old marks.old work.old) × (count ≤ room) × (1 ≤ count) × All OnPlate points.now
-        × (c.first.0 ≤ v.0) × (v.0 ≤ c.first.0 + c.last)
-        × (c.first.0 + c.last < 65536) × (2 * (c.first.0 + c.last) + 1 < length points.now) }
-    ensures { (Pen g room result path.new marks.new work.new)
-        × (KeptFrom (2916 + room) work.old work.new)
-        × ((p : Plate) (w : Waiting) → p.points ≡ points.now → w.contour ≡ contour_of c → c.first.0 + w.kept.entry ≡ v.0 →
-        Grows points.now room count result path.old path.new marks.old marks.new
-        (λ steps. entered p g steps w)) }
+// The path with one more contour, entered at a vertex of its own: walked back to the point that is nearest to it now, and on from there.
+fn enter(points: &[f64], writer: &mut PathWriter<'_>, candidate: Candidate) -> Result<(), Full>
+    requires writable { CanWrite writer.old }
+    requires fits { writer.old.count ≤ writer.old.room }
+    requires some { 1 ≤ writer.old.count }
+    requires on_plate { All OnPlate points.now }
+    requires entry { (candidate.contour.first.0 ≤ candidate.entry.0) × (candidate.entry.0 ≤ candidate.contour.first.0 + candidate.contour.last) }
+    requires within { candidate.contour.first.0 + candidate.contour.last < 65536 }
+    requires held { 2 * (candidate.contour.first.0 + candidate.contour.last) + 1 < length points.now }
+    ensures same { SameWriter writer.old writer.new }
+    ensures written { Written writer.old writer.new result }
+    ensures adds { (p : Plate) (w : Waiting) → p.points ≡ points.now → w.contour ≡ contour_of candidate.contour →
+        candidate.contour.first.0 + w.kept.entry ≡ candidate.entry.0 →
+        Adds points.now writer.old writer.new result (λ steps. entered p writer.old.grid.spatial steps w) }
 {
+    let v = candidate.entry;
     let q = point_at(points, v);
-    let h = place_in(nearest(g, &*path, &*work, count, q));
-    let kind = landing_kind(path_point(&*path, h), q);
-    let back = walk_back(g, room, &mut *path, &mut *marks, &mut *work, count, h);
-    if room < back {
-        return back;
-    }
-    let landing = Landing {
-        contour: c,
-        vertex: v,
-        kind,
-    };
-    emit(
-        points,
-        g,
-        room,
-        &mut *path,
-        &mut *marks,
-        &mut *work,
-        back,
-        landing,
-    )
+    let path = writer.so_far();
+    let h = place_in(nearest(writer.grid, &path, writer.work(), q));
+    let landing = landing_mark(path_point(path.points, h), q, v);
+    writer.walk_back(h)?;
+    emit(points, writer, candidate.contour, landing)
 }
 
 // A contour that was emitted waits no more, and the caches around it are updated.
 fn settle(
-    points: &[f64],
-    g: SpatialGrid,
+    frame: &Frame<'_>,
     distances: &mut [f64],
     work: &mut [u32],
-    lay: Layout,
+    path: &PathSoFar<'_>,
     turn: u32,
     c: Contour,
-    path: &[f64],
-    count: u32,
 )
-    requires { (Querying points.now g lay distances.old work.old path.now count)
-        × (c.number < lay.contours) × (c.first.0 + c.last < lay.points)
-        × ((k : ℕ) → k < lay.cells → from work.old lay.flags k < turn) }
-    ensures { (Prepared points.now g lay distances.new work.new)
-        × (KeptBelow lay.flags work.old work.new)
-        × ((k : ℕ) → k < lay.cells → from work.new lay.flags k ≤ turn)
-        × ((p : Plate) (ws : List Waiting) → p.points ≡ points.now →
-        Lines points.now g lay distances.old work.old ws →
-        Lines points.now g lay distances.new work.new
-        (map (update p g (history.points path.now count) (cells_around (vertex_at p (contour_of c)) g c.last)) (without waiting_number c.number ws))) }
+    requires querying { QueryingBy frame.now distances.old work.old path.now }
+    requires number { c.number < frame.now.layout.contours }
+    requires within { c.first.0 + c.last < frame.now.layout.points }
+    requires flags { (k : ℕ) → k < frame.now.layout.cells → from work.old frame.now.layout.flags k < turn }
+    ensures prepared { PreparedBy frame.now distances.new work.new }
+    ensures kept { KeptBelow frame.now.layout.flags work.old work.new }
+    ensures flags { (k : ℕ) → k < frame.now.layout.cells → from work.new frame.now.layout.flags k ≤ turn }
+    ensures lines { let g = frame.now.grid.spatial in let lay = frame.now.layout in
+        (p : Plate) (ws : List Waiting) → p.points ≡ frame.now.points.now →
+        Lines frame.now.points.now g lay distances.old work.old ws →
+        Lines frame.now.points.now g lay distances.new work.new
+        (map (update p g (history.points path.now.points.now path.now.count) (cells_around (vertex_at p (contour_of c)) g c.last)) (without waiting_number c.number ws)) }
 {
-    let a = lay.waiting + (c.number as usize);
+    let a = frame.layout.waiting + (c.number as usize);
     work[a] = 0;
-    update_nearby_caches(
-        points,
-        g,
-        &mut *distances,
-        &mut *work,
-        lay,
-        turn,
-        c,
-        path,
-        count,
-    );
+    update_nearby_caches(frame, &mut *distances, &mut *work, turn, c, path);
 }
 
 // The slices before the start: no point is on the path, and every contour waits but one.
-fn set_up(
-    points: &[f64],
-    lengths: &[u32],
-    g: SpatialGrid,
+fn set_up<'a>(
+    checked: &CheckedInput<'a>,
+    grid: Grid,
     room: u32,
     distances: &mut [f64],
     work: &mut [u32],
     number: u32,
-) -> Layout
-    requires { (Accepted points.now lengths.now) × (Sane g) × (room ≤ 1048576) × (number < length lengths.now)
-        × (length lengths.now ≤ length distances.old)
-        × (room + 4 * sum lengths.now + 8 * length lengths.now + 16384 ≤ length work.old) }
-    ensures { (result.flags ≡ 2916 + room) × (result.points ≡ sum lengths.now)
-        × (Prepared points.now g result distances.new work.new)
-        × ((path : List Float) → Ready g path work.new 0)
-        × ((k : ℕ) → k < result.cells → from work.new result.flags k ≡ 0)
-        × ((p : Plate) → p.points ≡ points.now → p.lengths ≡ lengths.now →
-        Lines points.now g result distances.new work.new (without waiting_number number (map (waiting p g) (contours p))))
-        × (result.contours ≡ length lengths.now) }
+) -> Frame<'a>
+    requires small { room ≤ 1048576 }
+    requires number { number < length checked.now.input.lengths.now }
+    requires distances_room { length checked.now.input.lengths.now ≤ length distances.old }
+    requires work_room { room + 4 * sum checked.now.input.lengths.now + 8 * length checked.now.input.lengths.now + 16384 ≤ length work.old }
+    ensures points { result.points.now ≡ checked.now.input.points.now }
+    ensures grid { result.grid.spatial ≡ grid.spatial }
+    ensures parts { (result.layout.flags ≡ 2916 + room) × (result.layout.points ≡ sum checked.now.input.lengths.now)
+        × (result.layout.contours ≡ length checked.now.input.lengths.now) }
+    ensures prepared { PreparedBy result distances.new work.new }
+    ensures ready { (path : List Float) → Ready result.grid.spatial path work.new 0 }
+    ensures flags { (k : ℕ) → k < result.layout.cells → from work.new result.layout.flags k ≡ 0 }
+    ensures lines { let g = result.grid.spatial in
+        (p : Plate) → p.points ≡ result.points.now → p.lengths ≡ checked.now.input.lengths.now →
+        Lines result.points.now g result.layout distances.new work.new (without waiting_number number (map (waiting p g) (contours p))) }
 {
-    let cells = (g.cols as usize) * (g.rows as usize);
-    let lay = laid_out(
+    let input = checked.input;
+    let cells = (grid.spatial.cols as usize) * (grid.spatial.rows as usize);
+    let layout = laid_out(
         2916 + (room as usize),
-        points.len() / 2,
+        input.points.len() / 2,
         cells,
-        lengths.len(),
+        input.lengths.len(),
     );
+    let frame = Frame {
+        points: input.points,
+        grid,
+        layout,
+    };
     clear(&mut *work);
-    prepare(points, lengths, g, &mut *distances, &mut *work, lay);
-    let a = lay.waiting + (number as usize);
+    prepare(&frame, input.lengths, &mut *distances, &mut *work);
+    let a = layout.waiting + (number as usize);
     work[a] = 0;
-    lay
+    frame
 }
 
 // Contours enter the path one after the other, until nobody waits or the path is full.
 fn join_waiting(
-    points: &[f64],
-    g: SpatialGrid,
-    room: u32,
-    path: &mut [f64],
-    marks: &mut [u32],
-    work: &mut [u32],
-    distances: &mut [f64],
-    lay: Layout,
-    count: u32,
+    frame: &Frame<'_>,
     layers: &[u32],
-) -> u32
-    requires { CanJoin points.now layers.now g lay room count path.old marks.old work.old distances.old }
-    ensures { Joined points.now layers.now g lay room count path.old marks.old work.old distances.old result path.new marks.new }
+    writer: &mut PathWriter<'_>,
+    distances: &mut [f64],
+) -> Result<(), Full>
+    requires grid { writer.old.grid.spatial ≡ frame.now.grid.spatial }
+    requires joining { CanJoin frame.now.points.now layers.now frame.now.grid.spatial frame.now.layout writer.old.room writer.old.count
+        writer.old.path.now writer.old.marks.now writer.old.work.now distances.old }
+    ensures same { SameWriter writer.old writer.new }
+    ensures fits { IfOk result (λ _. writer.new.count ≤ writer.old.room) }
+    ensures joined { Joined frame.now.points.now layers.now frame.now.grid.spatial frame.now.layout writer.old.room writer.old.count
+        writer.old.path.now writer.old.marks.now writer.old.work.now distances.old
+        (reached writer.old.room writer.new.count result) writer.new.path.now writer.new.marks.now }
 {
-    let mut k = count;
     let mut turn: u32 = 0;
+    // The document's own form: the loop ends where nobody is chosen.
     loop {
-        let Chosen::Candidate(c, v) = choose_waiting(&*distances, layers, &*work, lay) else {
+        let Some(candidate) = choose_waiting(&*distances, layers, writer.work(), frame.layout)
+        else {
             break;
         };
         turn += 1;
-        k = enter(
-            points,
-            g,
-            room,
-            &mut *path,
-            &mut *marks,
-            &mut *work,
-            k,
-            c,
-            v,
-        );
-        if room < k {
-            return k;
-        }
-        settle(
-            points,
-            g,
-            &mut *distances,
-            &mut *work,
-            lay,
-            turn,
-            c,
-            &*path,
-            k,
-        );
+        enter(frame.points, &mut *writer, candidate)?;
+        // `so_far` would lend the whole writer, and `work` is lent beside it.
+        let points = &mut *writer.path;
+        let work = &mut *writer.work;
+        let path = PathSoFar {
+            points: &*points,
+            count: writer.count,
+        };
+        settle(frame, &mut *distances, work, &path, turn, candidate.contour);
     }
-    k
+    Ok(())
 }
 
-// Joins the contours of a plate behind the one that leads, s: how many path points there are, or room + 1.
+// Joins the contours of a plate behind the one that leads, s, on a path with no point.
 fn join_from(
-    points: &[f64],
-    lengths: &[u32],
-    g: SpatialGrid,
-    room: u32,
-    path: &mut [f64],
-    marks: &mut [u32],
-    work: &mut [u32],
+    checked: &CheckedInput<'_>,
+    writer: &mut PathWriter<'_>,
     distances: &mut [f64],
     s: Oriented,
-    layers: &[u32],
-) -> u32
-    requires { (Accepted points.now lengths.now) × (Sane g)
-        × (Lent room lengths.now path.old marks.old work.old distances.old) × (Placed lengths.now (contour_of s.contour))
-        × (length layers.now ≡ length lengths.now) }
-    ensures { (p : Plate) → p.points ≡ points.now → p.lengths ≡ lengths.now → p.layers ≡ layers.now →
-        Wrote points.now (retrace_from p g (oriented_of s) (contours p)) room result path.old path.new marks.old marks.new }
+) -> Result<(), Full>
+    requires lent { Lent writer.old.room checked.now.input.lengths.now writer.old.path.now writer.old.marks.now writer.old.work.now distances.old }
+    requires none { writer.old.count ≡ 0 }
+    requires placed { Placed checked.now.input.lengths.now (contour_of s.contour) }
+    ensures same { SameWriter writer.old writer.new }
+    ensures fits { IfOk result (λ _. writer.new.count ≤ writer.old.room) }
+    ensures wrote { let i = checked.now.input in
+        (p : Plate) → p.points ≡ i.points.now → p.lengths ≡ i.lengths.now → p.layers ≡ i.layers.now →
+        Wrote i.points.now (retrace_from p writer.old.grid.spatial (oriented_of s) (contours p)) writer.old.room
+        (reached writer.old.room writer.new.count result) writer.old.path.now writer.new.path.now writer.old.marks.now writer.new.marks.now }
 {
     let c = s.contour;
-    let lay = set_up(
-        points,
-        lengths,
-        g,
-        room,
+    let frame = set_up(
+        checked,
+        writer.grid,
+        writer.room,
         &mut *distances,
-        &mut *work,
+        &mut *writer.work,
         c.number,
     );
-    let landing = Landing {
-        contour: c,
-        vertex: first_end(c, s.reversed),
-        kind: START,
+    let landing = Mark::Start(first_end(c, s.reversed));
+    emit(frame.points, &mut *writer, c, landing)?;
+    // `so_far` would lend the whole writer, and `work` is lent beside it.
+    let points = &mut *writer.path;
+    let work = &mut *writer.work;
+    let path = PathSoFar {
+        points: &*points,
+        count: writer.count,
     };
-    let count = emit(
-        points,
-        g,
-        room,
-        &mut *path,
-        &mut *marks,
-        &mut *work,
-        0,
-        landing,
-    );
-    if room < count {
-        return count;
-    }
-    seed_caches(points, g, &mut *distances, &mut *work, lay, &*path, count);
-    join_waiting(
-        points,
-        g,
-        room,
-        &mut *path,
-        &mut *marks,
-        &mut *work,
-        &mut *distances,
-        lay,
-        count,
-        layers,
-    )
+    seed_caches(&frame, &mut *distances, work, &path);
+    join_waiting(&frame, checked.input.layers, &mut *writer, &mut *distances)
 }
 
-// Joins the contours of a plate by retracing: how many points the path has, or room + 1 where they are more than there is room for.
+// Joins the contours of a plate by retracing: how many points the path has, where there is room for them.
 pub fn join_retrace(
-    points: &[f64],
-    lengths: &[u32],
-    layers: &[u32],
-    width: u32,
-    height: u32,
-    strategy: StartPointStrategy,
+    checked: &CheckedInput<'_>,
     room: u32,
     path: &mut [f64],
     marks: &mut [u32],
     work: &mut [u32],
     distances: &mut [f64],
-) -> u32
-    requires { (Accepted points.now lengths.now) × (Lent room lengths.now path.old marks.old work.old distances.old) × (length layers.now ≡ length lengths.now) }
-    ensures { Wrote points.now (retrace (plate points.now lengths.now layers.now width height strategy)) room result
+) -> Result<u32, Full>
+    requires { Lent room checked.now.input.lengths.now path.old marks.old work.old distances.old }
+    ensures wrote { Wrote checked.now.input.points.now (retrace (plate_of checked.now.input)) room (path_count room result)
         path.old path.new marks.old marks.new }
+    ensures fits { IfOk result (λ n. n ≤ room) }
 {
-    let lead = choose_start_contour(points, lengths, layers, width, height, strategy);
-    let Lead::Best(s) = lead else {
-        return 0;
+    let Some(s) = choose_start_contour(checked) else {
+        return Ok(0);
     };
-    let g = new(polyline_bounding_box(points));
-    join_from(
-        points,
-        lengths,
-        g,
+    let mut writer = PathWriter {
+        grid: Grid::new(polyline_bounding_box(checked.input.points)),
         room,
-        &mut *path,
-        &mut *marks,
-        &mut *work,
-        &mut *distances,
-        s,
-        layers,
-    )
+        path,
+        marks,
+        work,
+        count: 0,
+    };
+    join_from(checked, &mut writer, distances, s)?;
+    Ok(writer.count)
 }

@@ -5,7 +5,8 @@ ghost use Rattle.std.specs.Prelude.{◌≡◌, ◌+◌, ◌*◌, ◌≤◌, leng
 ghost use Rattle.layout.specs.Laid.{Laid};
 ghost use Rattle.layout.specs.Parts.{Cleared};
 
-// Where the parts behind the history's begin, and how many points, cells and contours there are.
+// Where the parts behind the history's begin, and how many points, cells and contours there are. A part is an offset, and what belongs to a contour
+// lies in several, since one slice is lent and the library has no heap.
 // `flags` and `list` serve the listing of cells; `entries` are cached; `heads` and `next` chain the samples of each cell;
 // `owners` tells of each vertex whose sample it is; `waiting` is a contour's length while it waits, then 0; `firsts` is its first vertex.
 #[derive(Clone, Copy)]
@@ -55,7 +56,5 @@ pub fn clear(work: &mut [u32], start: usize, end: usize)
     requires { (start ≤ end) × (end ≤ length work.old) }
     ensures { Cleared start end work.old work.new }
 {
-    for i in start..end {
-        work[i] = 0;
-    }
+    work[start..end].fill(0);
 }

@@ -3,580 +3,507 @@
 // and f64 work slices, and number, place, points, cuts, back-steps, jumps and touches.
 #![tactic(auto)]
 
-ghost use Rattle.std.specs.Prelude.{◌≤◌};
-
+use boundary::{ABOVE, BELOW, along, tell};
 use results::RetraceResult;
+use std::io;
 use twillharbor::{
     twillharbor_order, twillharbor_order_home, twillharbor_retrace, twillharbor_retrace_home,
     twillharbor_start, twillharbor_start_home, twillharbor_straight, twillharbor_straight_home,
 };
 
-fn show(number: u32, place: u32) {
-    io::write_all(1, b": ");
-    io::print_decimal(1, number as u64);
-    io::write_all(1, b" ");
-    io::print_decimal(1, place as u64);
-    io::write_all(1, b"\n");
+// Contours with their layers.
+#[derive(Clone, Copy)]
+struct Plate<'a> {
+    points: &'a [f64],
+    lengths: &'a [u32],
+    layers: &'a [u32],
 }
 
-fn show_count(number: u32, place: u32, count: u32) {
-    io::write_all(1, b": ");
-    io::print_decimal(1, number as u64);
-    io::write_all(1, b" ");
-    io::print_decimal(1, place as u64);
-    io::write_all(1, b" ");
-    io::print_decimal(1, count as u64);
-    io::write_all(1, b"\n");
-}
-
-// The start call, Outside, on a plate of 10 by 10. The order and the straight call below have the same plate.
-fn start(points: &[f64], lengths: &[u32], layers: &[u32]) {
-    let r = twillharbor_start(points, lengths, layers, 10, 10, false);
-    show(r.number, r.place);
-}
-
-fn order(points: &[f64], lengths: &[u32], layers: &[u32], entries: &mut [u32], work: &mut [u32]) {
-    let r = twillharbor_order(points, lengths, layers, 10, 10, false, entries, work);
-    show_count(r.number, r.place, r.entries);
-}
-
-fn straight(points: &[f64], lengths: &[u32], layers: &[u32], path: &mut [f64], work: &mut [u32]) {
-    let r = twillharbor_straight(points, lengths, layers, 10, 10, false, path, work);
-    show_count(r.number, r.place, r.points);
-}
-
-// The start call on one contour of two points.
-fn line_start(ax: f64, ay: f64, bx: f64, by: f64) {
-    let points = [ax, ay, bx, by];
-    let lengths = [2u32; 1];
-    let layers = [0u32; 1];
-    start(&points, &lengths, &layers);
-}
-
-// The next float above 1,000,000, whose pattern is 4696837146684686336.
-fn next_above() -> f64 {
-    f64::from_bits(4696837146684686337)
-}
-
-// The next float below -1,000,000, whose pattern is 13920209183539462144.
-fn next_below() -> f64 {
-    f64::from_bits(13920209183539462145)
-}
-
-fn coordinates() {
-    let above = next_above();
-    let below = next_below();
-    io::write_all(1, b"start, 1000000 at 0");
-    line_start(1000000.0, 0.0, 0.0, 0.0);
-    io::write_all(1, b"start, 1000000 at 3");
-    line_start(0.0, 0.0, 0.0, 1000000.0);
-    io::write_all(1, b"start, -1000000 at 0");
-    line_start(-1000000.0, 0.0, 0.0, 0.0);
-    io::write_all(1, b"start, -1000000 at 3");
-    line_start(0.0, 0.0, 0.0, -1000000.0);
-    io::write_all(1, b"start, next above 1000000 at 0");
-    line_start(above, 0.0, 0.0, 0.0);
-    io::write_all(1, b"start, next above 1000000 at 3");
-    line_start(0.0, 0.0, 0.0, above);
-    io::write_all(1, b"start, next below -1000000 at 0");
-    line_start(below, 0.0, 0.0, 0.0);
-    io::write_all(1, b"start, next below -1000000 at 3");
-    line_start(0.0, 0.0, 0.0, below);
-}
-
-fn most_contours_start() {
-    let points = [0.0f64; 0];
-    let lengths = [0u32; 4096];
-    let layers = [0u32; 4096];
-    io::write_all(1, b"start, 4096 empty contours");
-    start(&points, &lengths, &layers);
-}
-
-fn most_contours_order() {
-    let points = [0.0f64; 0];
-    let lengths = [0u32; 4096];
-    let layers = [0u32; 4096];
-    let mut entries = [0u32; 2];
-    let mut work = [0u32; 4096];
-    io::write_all(1, b"order, 4096 empty contours, work 4096");
-    order(&points, &lengths, &layers, &mut entries, &mut work);
-}
-
-fn most_contours_short() {
-    let points = [0.0f64; 0];
-    let lengths = [0u32; 4096];
-    let layers = [0u32; 4096];
-    let mut entries = [0u32; 2];
-    let mut work = [0u32; 4095];
-    io::write_all(1, b"order, 4096 empty contours, work 4095");
-    order(&points, &lengths, &layers, &mut entries, &mut work);
-}
-
-fn too_many_contours_start() {
-    let points = [0.0f64; 0];
-    let lengths = [0u32; 4097];
-    let layers = [0u32; 4097];
-    io::write_all(1, b"start, 4097 empty contours");
-    start(&points, &lengths, &layers);
-}
-
-fn too_many_contours_order() {
-    let points = [0.0f64; 0];
-    let lengths = [0u32; 4097];
-    let layers = [0u32; 4097];
-    let mut entries = [0u32; 2];
-    let mut work = [0u32; 4097];
-    io::write_all(1, b"order, 4097 empty contours, work 4097");
-    order(&points, &lengths, &layers, &mut entries, &mut work);
-}
-
-fn most_points_start() {
-    let points = [0.0f64; 131072];
-    let lengths = [65536u32; 1];
-    let layers = [0u32; 1];
-    io::write_all(1, b"start, 65536 points");
-    start(&points, &lengths, &layers);
-}
-
-fn most_points_straight() {
-    let points = [0.0f64; 131072];
-    let lengths = [65536u32; 1];
-    let layers = [0u32; 1];
-    let mut path = [0.0f64; 131072];
-    let mut work = [0u32; 1];
-    io::write_all(1, b"straight, 65536 points, path 131072");
-    straight(&points, &lengths, &layers, &mut path, &mut work);
-}
-
-fn most_points_full() {
-    let points = [0.0f64; 131072];
-    let lengths = [65536u32; 1];
-    let layers = [0u32; 1];
-    let mut path = [0.0f64; 131070];
-    let mut work = [0u32; 1];
-    io::write_all(1, b"straight, 65536 points, path 131070");
-    straight(&points, &lengths, &layers, &mut path, &mut work);
-}
-
-fn too_many_points() {
-    let points = [0.0f64; 131074];
-    let lengths = [65537u32; 1];
-    let layers = [0u32; 1];
-    io::write_all(1, b"start, 65537 points");
-    start(&points, &lengths, &layers);
-}
-
-fn sums() {
-    let points = [0.0f64; 0];
-    let layers = [0u32; 2];
-    let twice = [4294967295u32; 2];
-    io::write_all(1, b"start, lengths 4294967295 and 4294967295");
-    start(&points, &twice, &layers);
-    let wrapped = [4294967295u32, 1];
-    io::write_all(1, b"start, lengths 4294967295 and 1, no point");
-    start(&points, &wrapped, &layers);
-}
-
-fn miscounted() {
-    let points = [0.0f64; 3];
-    let lengths = [1u32; 1];
-    let layers = [0u32; 1];
-    io::write_all(1, b"start, length 1, 3 coordinates");
-    start(&points, &lengths, &layers);
-}
-
-fn no_room() {
-    let points = [0.0f64; 2];
-    let lengths = [1u32; 1];
-    let layers = [0u32; 1];
-    let mut entries = [0u32; 1];
-    let mut work = [0u32; 1];
-    io::write_all(1, b"order, 1 contour, order slice 1");
-    order(&points, &lengths, &layers, &mut entries, &mut work);
-}
-
-fn order_work_short() {
-    let points = [0.0f64; 4];
-    let lengths = [1u32; 2];
-    let layers = [0u32; 2];
-    let mut entries = [0u32; 4];
-    let mut work = [0u32; 1];
-    io::write_all(1, b"order, 2 contours, work 1");
-    order(&points, &lengths, &layers, &mut entries, &mut work);
-}
-
-fn straight_work_short() {
-    let points = [0.0f64; 4];
-    let lengths = [1u32; 2];
-    let layers = [0u32; 2];
-    let mut path = [0.0f64; 4];
-    let mut work = [0u32; 1];
-    io::write_all(1, b"straight, 2 contours, work 1");
-    straight(&points, &lengths, &layers, &mut path, &mut work);
-}
-
-fn put(x: u64) {
-    io::write_all(1, b" ");
-    io::print_decimal(1, x);
-}
-
-fn show_retrace(r: RetraceResult) {
-    io::write_all(1, b":");
-    put(r.number as u64);
-    put(r.place as u64);
-    put(r.points as u64);
-    put(r.cuts as u64);
-    put(r.back_steps as u64);
-    put(r.jumps as u64);
-    put(r.touches as u64);
-    io::write_all(1, b"\n");
-}
-
-fn show_lengths(name: &[u8], path: usize, marks: usize, work: usize, distances: usize) {
-    io::write_all(1, b"retrace, ");
-    io::write_all(1, name);
-    io::write_all(1, b", slices of");
-    put(path as u64);
-    put(marks as u64);
-    put(work as u64);
-    put(distances as u64);
-}
-
-// The retrace call, Inside, on a plate of no width and height, with slices of these lengths.
-fn retrace(
-    name: &[u8],
-    points: &[f64],
-    lengths: &[u32],
-    layers: &[u32],
+// The lengths of the slices that the retrace call is lent.
+#[derive(Clone, Copy)]
+struct Lent {
     path: usize,
     marks: usize,
     work: usize,
     distances: usize,
-)
-    requires path_bound { path ≤ 131072 }
-    requires marks_bound { marks ≤ 131072 }
-    requires work_bound { work ≤ 344072 }
-    requires distances_bound { distances ≤ 4097 }
-{
-    let mut lent_path = [0.0f64; 131072];
-    let mut lent_marks = [0u32; 131072];
-    let mut lent_work = [0u32; 344072];
-    let mut lent_distances = [0.0f64; 4097];
+}
+
+fn show<R: Print>(rt: &R, name: &str, numbers: &[u32]) -> io::Result<()> {
+    print!(rt; "{name}:")?;
+    for number in numbers {
+        print!(rt; " {number}")?;
+    }
+    println!(rt; "")
+}
+
+// The start call, Outside, on a plate of 10 by 10. The order and the straight call below have the same plate.
+fn start<R: Print>(rt: &R, name: &str, p: Plate<'_>) -> io::Result<()> {
+    let r = twillharbor_start(p.points, p.lengths, p.layers, 10, 10, false);
+    show(rt, name, &[r.number, r.place])
+}
+
+fn order<R: Print>(
+    rt: &R,
+    name: &str,
+    p: Plate<'_>,
+    entries: &mut [u32],
+    work: &mut [u32],
+) -> io::Result<()> {
+    let r = twillharbor_order(p.points, p.lengths, p.layers, 10, 10, false, entries, work);
+    show(rt, name, &[r.number, r.place, r.entries])
+}
+
+fn straight<R: Print>(
+    rt: &R,
+    name: &str,
+    p: Plate<'_>,
+    path: &mut [f64],
+    work: &mut [u32],
+) -> io::Result<()> {
+    let r = twillharbor_straight(p.points, p.lengths, p.layers, 10, 10, false, path, work);
+    show(rt, name, &[r.number, r.place, r.points])
+}
+
+fn numbers_of(r: RetraceResult) -> [u64; 7] {
+    [
+        u64::from(r.number),
+        u64::from(r.place),
+        u64::from(r.points),
+        u64::from(r.cuts),
+        u64::from(r.back_steps),
+        u64::from(r.jumps),
+        u64::from(r.touches),
+    ]
+}
+
+// The retrace call, Inside, on a plate of no width and height, with slices of these lengths.
+fn retrace<R: Print + AllocGlobal>(rt: &R, name: &str, p: Plate<'_>, lent: Lent) -> io::Result<()> {
+    let mut path = vec![in rt.alloc(); 0.0f64; lent.path]?;
+    let mut marks = vec![in rt.alloc(); 0u32; lent.marks]?;
+    let mut work = vec![in rt.alloc(); 0u32; lent.work]?;
+    let mut distances = vec![in rt.alloc(); 0.0f64; lent.distances]?;
     let r = twillharbor_retrace(
-        points,
-        lengths,
-        layers,
+        p.points,
+        p.lengths,
+        p.layers,
         0,
         0,
         true,
-        &mut lent_path[..path],
-        &mut lent_marks[..marks],
-        &mut lent_work[..work],
-        &mut lent_distances[..distances],
+        path.as_mut_slice(),
+        marks.as_mut_slice(),
+        work.as_mut_slice(),
+        distances.as_mut_slice(),
     );
-    show_lengths(name, path, marks, work, distances);
-    show_retrace(r);
+    let lengths = [lent.path, lent.marks, lent.work, lent.distances];
+    print!(rt; "retrace, ")?;
+    tell(rt, name, &lengths, &numbers_of(r))?;
+    println!(rt; "")
 }
 
-fn line_retrace(name: &[u8], ax: f64, by: f64) {
-    let points = [ax, 0.0, 0.0, by];
-    let lengths = [2u32; 1];
-    let layers = [0u32; 1];
-    retrace(name, &points, &lengths, &layers, 4, 4, 16402, 1);
+// The start call on one contour of two points, (ax, 0) and (0, by).
+fn line_start<R: Print>(rt: &R, name: &str, ax: f64, by: f64) -> io::Result<()> {
+    let p = Plate {
+        points: &[ax, 0.0, 0.0, by],
+        lengths: &[2],
+        layers: &[0],
+    };
+    start(rt, name, p)
 }
 
-fn coordinates_retrace() {
-    let above = next_above();
-    let below = next_below();
-    line_retrace(b"-1000000 at 0", -1000000.0, 0.0);
-    line_retrace(b"1000000 at 3", 0.0, 1000000.0);
-    line_retrace(b"next below -1000000 at 0", below, 0.0);
-    line_retrace(b"next above 1000000 at 3", 0.0, above);
+fn coordinates<R: Print>(rt: &R) -> io::Result<()> {
+    line_start(rt, "start, 1000000 at 0", 1000000.0, 0.0)?;
+    line_start(rt, "start, 1000000 at 3", 0.0, 1000000.0)?;
+    line_start(rt, "start, -1000000 at 0", -1000000.0, 0.0)?;
+    line_start(rt, "start, -1000000 at 3", 0.0, -1000000.0)?;
+    line_start(rt, "start, next above 1000000 at 0", ABOVE, 0.0)?;
+    line_start(rt, "start, next above 1000000 at 3", 0.0, ABOVE)?;
+    line_start(rt, "start, next below -1000000 at 0", BELOW, 0.0)?;
+    line_start(rt, "start, next below -1000000 at 3", 0.0, BELOW)
 }
 
-// Points (0, 0), (1, 0), (2, 0) and so on, of a slice of zeros.
-fn along(xs: &mut [f64]) {
-    let mut x = 0.0f64;
-    let mut i = 0;
-    while i < xs.len() {
-        xs[i] = x;
-        x = x + 1.0;
-        i += 2;
+fn most_contours<R: Print>(rt: &R) -> io::Result<()> {
+    let p = Plate {
+        points: &[],
+        lengths: &[0; 4096],
+        layers: &[0; 4096],
+    };
+    start(rt, "start, 4096 empty contours", p)?;
+    let name = "order, 4096 empty contours, work 4096";
+    order(rt, name, p, &mut [0; 2], &mut [0; 4096])?;
+    let name = "order, 4096 empty contours, work 4095";
+    order(rt, name, p, &mut [0; 2], &mut [0; 4095])
+}
+
+fn too_many_contours<R: Print>(rt: &R) -> io::Result<()> {
+    let p = Plate {
+        points: &[],
+        lengths: &[0; 4097],
+        layers: &[0; 4097],
+    };
+    start(rt, "start, 4097 empty contours", p)?;
+    let name = "order, 4097 empty contours, work 4097";
+    order(rt, name, p, &mut [0; 2], &mut [0; 4097])
+}
+
+fn most_points<R: Print + AllocGlobal>(rt: &R) -> io::Result<()> {
+    let points = vec![in rt.alloc(); 0.0f64; 131072]?;
+    let mut path = vec![in rt.alloc(); 0.0f64; 131072]?;
+    let p = Plate {
+        points: points.as_slice(),
+        lengths: &[65536],
+        layers: &[0],
+    };
+    start(rt, "start, 65536 points", p)?;
+    let name = "straight, 65536 points, path 131072";
+    straight(rt, name, p, path.as_mut_slice(), &mut [0; 1])?;
+    let mut shorter = vec![in rt.alloc(); 0.0f64; 131070]?;
+    let name = "straight, 65536 points, path 131070";
+    straight(rt, name, p, shorter.as_mut_slice(), &mut [0; 1])
+}
+
+fn too_many_points<R: Print + AllocGlobal>(rt: &R) -> io::Result<()> {
+    let points = vec![in rt.alloc(); 0.0f64; 131074]?;
+    let p = Plate {
+        points: points.as_slice(),
+        lengths: &[65537],
+        layers: &[0],
+    };
+    start(rt, "start, 65537 points", p)
+}
+
+fn sums<R: Print>(rt: &R) -> io::Result<()> {
+    let twice = Plate {
+        points: &[],
+        lengths: &[4294967295, 4294967295],
+        layers: &[0, 0],
+    };
+    start(rt, "start, lengths 4294967295 and 4294967295", twice)?;
+    let wrapped = Plate {
+        points: &[],
+        lengths: &[4294967295, 1],
+        layers: &[0, 0],
+    };
+    start(rt, "start, lengths 4294967295 and 1, no point", wrapped)
+}
+
+fn short_slices<R: Print>(rt: &R) -> io::Result<()> {
+    let three = Plate {
+        points: &[0.0; 3],
+        lengths: &[1],
+        layers: &[0],
+    };
+    start(rt, "start, length 1, 3 coordinates", three)?;
+    let one = Plate {
+        points: &[0.0; 2],
+        lengths: &[1],
+        layers: &[0],
+    };
+    let name = "order, 1 contour, order slice 1";
+    order(rt, name, one, &mut [0; 1], &mut [0; 1])?;
+    let two = Plate {
+        points: &[0.0; 4],
+        lengths: &[1, 1],
+        layers: &[0, 0],
+    };
+    let name = "order, 2 contours, work 1";
+    order(rt, name, two, &mut [0; 4], &mut [0; 1])?;
+    let name = "straight, 2 contours, work 1";
+    straight(rt, name, two, &mut [0.0; 4], &mut [0; 1])
+}
+
+// The retrace call on one contour of two points, (ax, 0) and (0, by).
+fn line_retrace<R: Print + AllocGlobal>(rt: &R, name: &str, ax: f64, by: f64) -> io::Result<()> {
+    let p = Plate {
+        points: &[ax, 0.0, 0.0, by],
+        lengths: &[2],
+        layers: &[0],
+    };
+    let lent = Lent {
+        path: 4,
+        marks: 4,
+        work: 16402,
+        distances: 1,
+    };
+    retrace(rt, name, p, lent)
+}
+
+fn coordinates_retrace<R: Print + AllocGlobal>(rt: &R) -> io::Result<()> {
+    line_retrace(rt, "-1000000 at 0", -1000000.0, 0.0)?;
+    line_retrace(rt, "1000000 at 3", 0.0, 1000000.0)?;
+    line_retrace(rt, "next below -1000000 at 0", BELOW, 0.0)?;
+    line_retrace(rt, "next above 1000000 at 3", 0.0, ABOVE)
+}
+
+// The retrace call with slices of each of these lengths: of the path, the marks, the u32 and the f64 work.
+fn retrace_each<R: Print + AllocGlobal>(
+    rt: &R,
+    name: &str,
+    p: Plate<'_>,
+    cases: &[(usize, usize, usize, usize)],
+) -> io::Result<()> {
+    for &(path, marks, work, distances) in cases {
+        let lent = Lent {
+            path,
+            marks,
+            work,
+            distances,
+        };
+        retrace(rt, name, p, lent)?;
     }
+    Ok(())
 }
 
 // C = 0: u32 work of 8 x 4,096 + 16,384 is enough.
-fn empty_contours_retrace(name: &[u8], points: &[f64], lengths: &[u32], layers: &[u32]) {
-    retrace(name, points, lengths, layers, 0, 0, 49152, 4096);
-    retrace(name, points, lengths, layers, 0, 0, 49151, 4096);
-    retrace(name, points, lengths, layers, 0, 0, 49152, 4095);
-    retrace(name, points, lengths, layers, 0, 0, 49151, 4095);
+fn empty_contours_retrace<R: Print + AllocGlobal>(rt: &R) -> io::Result<()> {
+    let p = Plate {
+        points: &[],
+        lengths: &[0; 4096],
+        layers: &[0; 4096],
+    };
+    let cases = [
+        (0, 0, 49152, 4096),
+        (0, 0, 49151, 4096),
+        (0, 0, 49152, 4095),
+        (0, 0, 49151, 4095),
+    ];
+    retrace_each(rt, "4096 empty contours", p, &cases)
 }
 
 // The result has 4,096 points: C = 4,096 is enough, with u32 work of 4,096 + 4 x 4,096 + 8 x 4,096 + 16,384.
-fn single_points_retrace(name: &[u8], points: &[f64], lengths: &[u32], layers: &[u32]) {
-    retrace(name, points, lengths, layers, 8192, 8192, 69632, 4096);
-    retrace(name, points, lengths, layers, 8192, 8192, 69631, 4096);
-    retrace(name, points, lengths, layers, 8192, 8192, 69632, 4095);
-    retrace(name, points, lengths, layers, 8192, 8192, 69631, 4095);
-    retrace(name, points, lengths, layers, 8191, 8192, 69631, 4096);
-    retrace(name, points, lengths, layers, 8192, 8191, 69631, 4096);
-    retrace(name, points, lengths, layers, 8191, 8192, 69630, 4096);
-}
-
-fn most_contours_retrace() {
-    let none = [0.0f64; 0];
-    let empty = [0u32; 4096];
-    let layers = [0u32; 4096];
-    empty_contours_retrace(b"4096 empty contours", &none, &empty, &layers);
+fn single_points_retrace<R: Print + AllocGlobal>(rt: &R) -> io::Result<()> {
     let mut points = [0.0f64; 8192];
     along(&mut points);
-    let single = [1u32; 4096];
-    single_points_retrace(b"4096 contours of a point", &points, &single, &layers);
+    let p = Plate {
+        points: &points,
+        lengths: &[1; 4096],
+        layers: &[0; 4096],
+    };
+    let cases = [
+        (8192, 8192, 69632, 4096),
+        (8192, 8192, 69631, 4096),
+        (8192, 8192, 69632, 4095),
+        (8192, 8192, 69631, 4095),
+        (8191, 8192, 69631, 4096),
+        (8192, 8191, 69631, 4096),
+        (8191, 8192, 69630, 4096),
+    ];
+    retrace_each(rt, "4096 contours of a point", p, &cases)
 }
 
-fn too_many_contours_retrace() {
-    let points = [0.0f64; 0];
-    let lengths = [0u32; 4097];
-    let layers = [0u32; 4097];
-    retrace(
-        b"4097 empty contours",
-        &points,
-        &lengths,
-        &layers,
-        0,
-        0,
-        49160,
-        4097,
-    );
+fn too_many_contours_retrace<R: Print + AllocGlobal>(rt: &R) -> io::Result<()> {
+    let p = Plate {
+        points: &[],
+        lengths: &[0; 4097],
+        layers: &[0; 4097],
+    };
+    retrace_each(rt, "4097 empty contours", p, &[(0, 0, 49160, 4097)])
 }
 
 // The result has 65,536 points: C = 65,536 is enough, with u32 work of 65,536 + 4 x 65,536 + 8 + 16,384.
-fn one_contour_retrace(name: &[u8], points: &[f64], lengths: &[u32], layers: &[u32]) {
-    retrace(name, points, lengths, layers, 131072, 131072, 344072, 1);
-    retrace(name, points, lengths, layers, 131072, 131072, 344071, 1);
-    retrace(name, points, lengths, layers, 131072, 131072, 344072, 0);
-    retrace(name, points, lengths, layers, 131072, 131072, 344071, 0);
-    retrace(name, points, lengths, layers, 131070, 131072, 344071, 1);
-    retrace(name, points, lengths, layers, 131072, 131070, 344071, 1);
+fn most_points_retrace<R: Print + AllocGlobal>(rt: &R) -> io::Result<()> {
+    let mut points = vec![in rt.alloc(); 0.0f64; 131072]?;
+    along(points.as_mut_slice());
+    let p = Plate {
+        points: points.as_slice(),
+        lengths: &[65536],
+        layers: &[0],
+    };
+    let cases = [
+        (131072, 131072, 344072, 1),
+        (131072, 131072, 344071, 1),
+        (131072, 131072, 344072, 0),
+        (131072, 131072, 344071, 0),
+        (131070, 131072, 344071, 1),
+        (131072, 131070, 344071, 1),
+    ];
+    retrace_each(rt, "65536 points", p, &cases)
 }
 
-fn most_points_retrace() {
-    let mut points = [0.0f64; 131072];
-    along(&mut points);
-    let lengths = [65536u32; 1];
-    let layers = [0u32; 1];
-    one_contour_retrace(b"65536 points", &points, &lengths, &layers);
-}
-
-fn too_many_points_retrace() {
-    let points = [0.0f64; 131074];
-    let lengths = [65537u32; 1];
-    let layers = [0u32; 1];
-    retrace(
-        b"65537 points",
-        &points,
-        &lengths,
-        &layers,
-        131072,
-        131072,
-        344072,
-        1,
-    );
+fn too_many_points_retrace<R: Print + AllocGlobal>(rt: &R) -> io::Result<()> {
+    let points = vec![in rt.alloc(); 0.0f64; 131074]?;
+    let p = Plate {
+        points: points.as_slice(),
+        lengths: &[65537],
+        layers: &[0],
+    };
+    retrace_each(rt, "65537 points", p, &[(131072, 131072, 344072, 1)])
 }
 
 // The four calls, with slices that are enough for one point in 4,096 contours: C = 1, with u32 work of 1 + 4 + 8 x 4,096 + 16,384.
-fn four_calls(name: &[u8], points: &[f64], lengths: &[u32], layers: &[u32]) {
-    let mut entries = [0u32; 2];
-    let mut path = [0.0f64; 2];
+fn four_calls<R: Print + AllocGlobal>(rt: &R, name: &str, p: Plate<'_>) -> io::Result<()> {
     let mut work = [0u32; 4096];
-    io::write_all(1, b"start, ");
-    io::write_all(1, name);
-    start(points, lengths, layers);
-    io::write_all(1, b"order, ");
-    io::write_all(1, name);
-    order(points, lengths, layers, &mut entries, &mut work);
-    io::write_all(1, b"straight, ");
-    io::write_all(1, name);
-    straight(points, lengths, layers, &mut path, &mut work);
-    retrace(name, points, lengths, layers, 2, 2, 49157, 4096);
+    print!(rt; "start, ")?;
+    start(rt, name, p)?;
+    print!(rt; "order, ")?;
+    order(rt, name, p, &mut [0; 2], &mut work)?;
+    print!(rt; "straight, ")?;
+    straight(rt, name, p, &mut [0.0; 2], &mut work)?;
+    retrace_each(rt, name, p, &[(2, 2, 49157, 4096)])
 }
 
 // 4,096 contours of which the last alone has a point.
-fn last_layers() {
-    let points = [0.0f64; 2];
+fn last_alone() -> [u32; 4096] {
     let mut lengths = [0u32; 4096];
     lengths[4095] = 1;
+    lengths
+}
+
+fn last_layers<R: Print + AllocGlobal>(rt: &R) -> io::Result<()> {
+    let lengths = last_alone();
     let mut layers = [0u32; 4096];
     layers[4095] = 15;
-    four_calls(b"layer 15 at 4095 of 4096", &points, &lengths, &layers);
+    let points = [0.0f64; 2];
+    let p = Plate {
+        points: &points,
+        lengths: &lengths,
+        layers: &layers,
+    };
+    four_calls(rt, "layer 15 at 4095 of 4096", p)?;
     layers[4095] = 16;
-    four_calls(b"layer 16 at 4095 of 4096", &points, &lengths, &layers);
+    let p = Plate {
+        points: &points,
+        lengths: &lengths,
+        layers: &layers,
+    };
+    four_calls(rt, "layer 16 at 4095 of 4096", p)?;
     layers[4094] = 16;
-    four_calls(b"layer 16 at 4094 and 4095", &points, &lengths, &layers);
+    let p = Plate {
+        points: &points,
+        lengths: &lengths,
+        layers: &layers,
+    };
+    four_calls(rt, "layer 16 at 4094 and 4095", p)
 }
 
 // The place is the number of contours, even where the first layer is above 15.
-fn miscounted_layers() {
+fn miscounted_layers<R: Print + AllocGlobal>(rt: &R) -> io::Result<()> {
+    let lengths = last_alone();
     let points = [0.0f64; 2];
-    let mut lengths = [0u32; 4096];
-    lengths[4095] = 1;
-    let short = [0u32; 4095];
-    four_calls(b"4096 contours, 4095 layers", &points, &lengths, &short);
-    let long = [0u32; 4097];
-    four_calls(b"4096 contours, 4097 layers", &points, &lengths, &long);
-    let high = [16u32; 4095];
-    four_calls(
-        b"4096 contours, 4095 layers of 16",
-        &points,
-        &lengths,
-        &high,
-    );
+    let short = Plate {
+        points: &points,
+        lengths: &lengths,
+        layers: &[0; 4095],
+    };
+    four_calls(rt, "4096 contours, 4095 layers", short)?;
+    let long = Plate {
+        points: &points,
+        lengths: &lengths,
+        layers: &[0; 4097],
+    };
+    four_calls(rt, "4096 contours, 4097 layers", long)?;
+    let high = Plate {
+        points: &points,
+        lengths: &lengths,
+        layers: &[16; 4095],
+    };
+    four_calls(rt, "4096 contours, 4095 layers of 16", high)
 }
 
 // Refusals 1 and 2 are tested before the layers.
-fn layers_after_counts() {
-    let none = [0.0f64; 0];
-    let contours = [0u32; 4097];
-    let short = [16u32; 4096];
-    four_calls(
-        b"4097 empty contours, 4096 layers of 16",
-        &none,
-        &contours,
-        &short,
-    );
-    let high = [16u32; 4097];
-    four_calls(b"4097 empty contours of layer 16", &none, &contours, &high);
-    let points = [0.0f64; 131074];
-    let lengths = [65537u32; 1];
-    let no_layers = [0u32; 0];
-    four_calls(b"65537 points, no layer", &points, &lengths, &no_layers);
-    let one = [16u32; 1];
-    four_calls(b"65537 points of layer 16", &points, &lengths, &one);
-}
-
-fn show_name(call: &[u8], name: &[u8]) {
-    io::write_all(1, call);
-    io::write_all(1, b" home, ");
-    io::write_all(1, name);
-}
-
-fn retrace_home(name: &[u8], points: &[f64], lengths: &[u32], layers: &[u32], x: f64, y: f64) {
-    let mut path = [0.0f64; 2];
-    let mut marks = [0u32; 2];
-    let mut work = [0u32; 16397];
-    let mut distances = [0.0f64; 1];
-    let r = twillharbor_retrace_home(
-        points,
-        lengths,
-        layers,
-        x,
-        y,
-        &mut path,
-        &mut marks,
-        &mut work,
-        &mut distances,
-    );
-    show_name(b"retrace", name);
-    show_retrace(r);
+fn layers_after_counts<R: Print + AllocGlobal>(rt: &R) -> io::Result<()> {
+    let short = Plate {
+        points: &[],
+        lengths: &[0; 4097],
+        layers: &[16; 4096],
+    };
+    four_calls(rt, "4097 empty contours, 4096 layers of 16", short)?;
+    let high = Plate {
+        points: &[],
+        lengths: &[0; 4097],
+        layers: &[16; 4097],
+    };
+    four_calls(rt, "4097 empty contours of layer 16", high)?;
+    let points = vec![in rt.alloc(); 0.0f64; 131074]?;
+    let none = Plate {
+        points: points.as_slice(),
+        lengths: &[65537],
+        layers: &[],
+    };
+    four_calls(rt, "65537 points, no layer", none)?;
+    let one = Plate {
+        points: points.as_slice(),
+        lengths: &[65537],
+        layers: &[16],
+    };
+    four_calls(rt, "65537 points of layer 16", one)
 }
 
 // The four calls from a parked point, on a contour of one point, with slices that are enough for it: C = 1, with u32 work of 1 + 4 + 8 + 16,384.
-fn four_home_calls(name: &[u8], points: &[f64], layers: &[u32], x: f64, y: f64) {
+fn four_home_calls<R: Print>(
+    rt: &R,
+    name: &str,
+    points: &[f64],
+    layer: u32,
+    x: f64,
+    y: f64,
+) -> io::Result<()> {
     let lengths = [1u32; 1];
-    let mut entries = [0u32; 2];
-    let mut path = [0.0f64; 2];
-    let mut work = [0u32; 1];
-    let a = twillharbor_start_home(points, &lengths, layers, x, y);
-    show_name(b"start", name);
-    show(a.number, a.place);
-    let b = twillharbor_order_home(points, &lengths, layers, x, y, &mut entries, &mut work);
-    show_name(b"order", name);
-    show_count(b.number, b.place, b.entries);
-    let c = twillharbor_straight_home(points, &lengths, layers, x, y, &mut path, &mut work);
-    show_name(b"straight", name);
-    show_count(c.number, c.place, c.points);
-    retrace_home(name, points, &lengths, layers, x, y);
+    let layers = [layer];
+    let a = twillharbor_start_home(points, &lengths, &layers, x, y);
+    print!(rt; "start home, ")?;
+    show(rt, name, &[a.number, a.place])?;
+    let b = twillharbor_order_home(points, &lengths, &layers, x, y, &mut [0; 2], &mut [0; 1]);
+    print!(rt; "order home, ")?;
+    show(rt, name, &[b.number, b.place, b.entries])?;
+    let c = twillharbor_straight_home(points, &lengths, &layers, x, y, &mut [0.0; 2], &mut [0; 1]);
+    print!(rt; "straight home, ")?;
+    show(rt, name, &[c.number, c.place, c.points])?;
+    let d = twillharbor_retrace_home(
+        points,
+        &lengths,
+        &layers,
+        x,
+        y,
+        &mut [0.0; 2],
+        &mut [0; 2],
+        &mut [0; 16397],
+        &mut [0.0; 1],
+    );
+    print!(rt; "retrace home, ")?;
+    tell(rt, name, &[], &numbers_of(d))?;
+    println!(rt; "")
 }
 
-fn parked() {
-    let above = next_above();
-    let below = next_below();
+fn parked<R: Print>(rt: &R) -> io::Result<()> {
     let points = [0.0f64; 2];
-    let layers = [0u32; 1];
-    four_home_calls(
-        b"1000000, -1000000",
-        &points,
-        &layers,
-        1000000.0,
-        -1000000.0,
-    );
-    four_home_calls(
-        b"-1000000, 1000000",
-        &points,
-        &layers,
-        -1000000.0,
-        1000000.0,
-    );
-    four_home_calls(b"next above 1000000 as x", &points, &layers, above, 0.0);
-    four_home_calls(b"next below -1000000 as x", &points, &layers, below, 0.0);
-    four_home_calls(b"next above 1000000 as y", &points, &layers, 0.0, above);
-    four_home_calls(b"next below -1000000 as y", &points, &layers, 0.0, below);
+    let name = "1000000, -1000000";
+    four_home_calls(rt, name, &points, 0, 1000000.0, -1000000.0)?;
+    let name = "-1000000, 1000000";
+    four_home_calls(rt, name, &points, 0, -1000000.0, 1000000.0)?;
+    four_home_calls(rt, "next above 1000000 as x", &points, 0, ABOVE, 0.0)?;
+    four_home_calls(rt, "next below -1000000 as x", &points, 0, BELOW, 0.0)?;
+    four_home_calls(rt, "next above 1000000 as y", &points, 0, 0.0, ABOVE)?;
+    four_home_calls(rt, "next below -1000000 as y", &points, 0, 0.0, BELOW)
 }
 
 // The parked point is tested after the layers and before the coordinates: in the second case the place tells which was refused.
-fn parked_between() {
-    let above = next_above();
-    let points = [above, 0.0];
-    let high = [16u32; 1];
-    four_home_calls(
-        b"layer 16, all next above 1000000",
-        &points,
-        &high,
-        above,
-        above,
-    );
-    let layers = [0u32; 1];
-    four_home_calls(
-        b"coordinate 0 and y next above 1000000",
-        &points,
-        &layers,
-        0.0,
-        above,
-    );
-    four_home_calls(
-        b"coordinate 0 next above 1000000",
-        &points,
-        &layers,
-        0.0,
-        1000000.0,
-    );
+fn parked_between<R: Print>(rt: &R) -> io::Result<()> {
+    let points = [ABOVE, 0.0];
+    let name = "layer 16, all next above 1000000";
+    four_home_calls(rt, name, &points, 16, ABOVE, ABOVE)?;
+    let name = "coordinate 0 and y next above 1000000";
+    four_home_calls(rt, name, &points, 0, 0.0, ABOVE)?;
+    let name = "coordinate 0 next above 1000000";
+    four_home_calls(rt, name, &points, 0, 0.0, 1000000.0)
 }
 
-fn main() {
-    coordinates();
-    most_contours_start();
-    most_contours_order();
-    most_contours_short();
-    too_many_contours_start();
-    too_many_contours_order();
-    most_points_start();
-    most_points_straight();
-    most_points_full();
-    too_many_points();
-    sums();
-    miscounted();
-    no_room();
-    order_work_short();
-    straight_work_short();
-    coordinates_retrace();
-    most_contours_retrace();
-    too_many_contours_retrace();
-    most_points_retrace();
-    too_many_points_retrace();
-    last_layers();
-    miscounted_layers();
-    layers_after_counts();
-    parked();
-    parked_between();
+fn main(rt: HostRuntime) -> io::Result<()> {
+    coordinates(&rt)?;
+    most_contours(&rt)?;
+    too_many_contours(&rt)?;
+    most_points(&rt)?;
+    too_many_points(&rt)?;
+    sums(&rt)?;
+    short_slices(&rt)?;
+    coordinates_retrace(&rt)?;
+    empty_contours_retrace(&rt)?;
+    single_points_retrace(&rt)?;
+    too_many_contours_retrace(&rt)?;
+    most_points_retrace(&rt)?;
+    too_many_points_retrace(&rt)?;
+    last_layers(&rt)?;
+    miscounted_layers(&rt)?;
+    layers_after_counts(&rt)?;
+    parked(&rt)?;
+    parked_between(&rt)
 }

@@ -2,389 +2,432 @@
 // and work slices, and the call's number and place.
 #![tactic(auto)]
 
-ghost use Rattle.std.specs.Prelude.{◌≤◌, length};
+ghost use Rattle.std.specs.Prelude.{◌≤◌};
 
+use boundary::{ABOVE, BELOW, along, tell};
+use rules::{BACK_STEP, CUT, JUMP, TOUCH};
+use std::io;
 use twillharbor::twillharbor_check_path;
 
-// Kinds of marks.
-const CUT: u32 = 1;
+const NOT_A_NUMBER: f64 = 0.0 / 0.0;
 
-const BACK_STEP: u32 = 2;
-
-const JUMP: u32 = 3;
-
-const TOUCH: u32 = 4;
-
-fn put(x: u64) {
-    io::write_all(1, b" ");
-    io::print_decimal(1, x);
+// A plate, and a path with its marks.
+#[derive(Clone, Copy)]
+struct Handed<'a> {
+    points: &'a [f64],
+    lengths: &'a [u32],
+    path: &'a [f64],
+    marks: &'a [u32],
 }
 
 // The check call with a work slice of this length.
-fn check(name: &[u8], points: &[f64], lengths: &[u32], path: &[f64], marks: &[u32], work: usize)
-    requires { work ≤ 65538 }
-{
-    let mut lent = [7u32; 65538];
-    let r = twillharbor_check_path(points, lengths, path, marks, &mut lent[..work]);
-    io::write_all(1, name);
-    io::write_all(1, b", slices of");
-    put(path.len() as u64);
-    put(marks.len() as u64);
-    put(work as u64);
-    io::write_all(1, b":");
-    put(r.number as u64);
-    put(r.place);
-    io::write_all(1, b"\n");
+fn check<R: Print + AllocGlobal>(rt: &R, name: &str, h: Handed<'_>, work: usize) -> io::Result<()> {
+    let mut lent = vec![in rt.alloc(); 7u32; work]?;
+    let r = twillharbor_check_path(h.points, h.lengths, h.path, h.marks, lent.as_mut_slice());
+    let lengths = [h.path.len(), h.marks.len(), work];
+    tell(rt, name, &lengths, &[u64::from(r.number), r.place])?;
+    println!(rt; "")
 }
 
-// The next float above 1,000,000, whose pattern is 4696837146684686336.
-fn next_above() -> f64 {
-    f64::from_bits(4696837146684686337)
-}
-
-// The next float below -1,000,000, whose pattern is 13920209183539462144.
-fn next_below() -> f64 {
-    f64::from_bits(13920209183539462145)
-}
-
-fn not_a_number() -> f64 {
-    0.0 / 0.0
-}
-
-// A plate of one contour of two points, whose path is the contour.
-fn line(name: &[u8], ax: f64, by: f64) {
+// A plate of one contour of two points, (ax, 0) and (0, by), whose path is the contour.
+fn line<R: Print + AllocGlobal>(rt: &R, name: &str, ax: f64, by: f64) -> io::Result<()> {
     let points = [ax, 0.0, 0.0, by];
-    let lengths = [2u32; 1];
-    let marks = [0, 0, CUT, 0];
-    check(name, &points, &lengths, &points, &marks, 3);
+    let h = Handed {
+        points: &points,
+        lengths: &[2],
+        path: &points,
+        marks: &[0, 0, CUT, 0],
+    };
+    check(rt, name, h, 3)
 }
 
-fn coordinates() {
-    line(b"1000000 at 0", 1000000.0, 0.0);
-    line(b"-1000000 at 3", 0.0, -1000000.0);
-    line(b"next above 1000000 at 0", next_above(), 0.0);
-    line(b"next above 1000000 at 3", 0.0, next_above());
-    line(b"next below -1000000 at 0", next_below(), 0.0);
-    line(b"next below -1000000 at 3", 0.0, next_below());
-    line(b"NaN at 0", not_a_number(), 0.0);
-    line(b"NaN at 3", 0.0, not_a_number());
+fn coordinates<R: Print + AllocGlobal>(rt: &R) -> io::Result<()> {
+    line(rt, "1000000 at 0", 1000000.0, 0.0)?;
+    line(rt, "-1000000 at 3", 0.0, -1000000.0)?;
+    line(rt, "next above 1000000 at 0", ABOVE, 0.0)?;
+    line(rt, "next above 1000000 at 3", 0.0, ABOVE)?;
+    line(rt, "next below -1000000 at 0", BELOW, 0.0)?;
+    line(rt, "next below -1000000 at 3", 0.0, BELOW)?;
+    line(rt, "NaN at 0", NOT_A_NUMBER, 0.0)?;
+    line(rt, "NaN at 3", 0.0, NOT_A_NUMBER)
 }
 
 // The line from (1000000,0) to (0,1000000), and a path that may have other bits at 0 and at 3: these are of path points 0 and 1.
-fn line_path(name: &[u8], ax: f64, by: f64) {
-    let points = [1000000.0, 0.0, 0.0, 1000000.0];
-    let lengths = [2u32; 1];
-    let path = [ax, 0.0, 0.0, by];
-    let marks = [0, 0, CUT, 0];
-    check(name, &points, &lengths, &path, &marks, 3);
+fn line_path<R: Print + AllocGlobal>(rt: &R, name: &str, ax: f64, by: f64) -> io::Result<()> {
+    let h = Handed {
+        points: &[1000000.0, 0.0, 0.0, 1000000.0],
+        lengths: &[2],
+        path: &[ax, 0.0, 0.0, by],
+        marks: &[0, 0, CUT, 0],
+    };
+    check(rt, name, h, 3)
 }
 
-fn path_coordinates() {
-    line_path(b"path, 1000000 at 0 and 3", 1000000.0, 1000000.0);
-    line_path(b"path, next above 1000000 at 0", next_above(), 1000000.0);
-    line_path(b"path, next above 1000000 at 3", 1000000.0, next_above());
-    line_path(b"path, NaN at 0", not_a_number(), 1000000.0);
-    line_path(b"path, NaN at 3", 1000000.0, not_a_number());
-    line_path(b"path, NaN at 0 and 3", not_a_number(), not_a_number());
+fn path_coordinates<R: Print + AllocGlobal>(rt: &R) -> io::Result<()> {
+    line_path(rt, "path, 1000000 at 0 and 3", 1000000.0, 1000000.0)?;
+    line_path(rt, "path, next above 1000000 at 0", ABOVE, 1000000.0)?;
+    line_path(rt, "path, next above 1000000 at 3", 1000000.0, ABOVE)?;
+    line_path(rt, "path, NaN at 0", NOT_A_NUMBER, 1000000.0)?;
+    line_path(rt, "path, NaN at 3", 1000000.0, NOT_A_NUMBER)?;
+    line_path(rt, "path, NaN at 0 and 3", NOT_A_NUMBER, NOT_A_NUMBER)
 }
 
 // Two contours of a point, (0,0) and (-0,0): they touch, and their bits differ.
-fn zeros() {
+fn zeros<R: Print + AllocGlobal>(rt: &R) -> io::Result<()> {
     let points = [0.0, 0.0, -0.0, 0.0];
-    let lengths = [1u32; 2];
-    let touch = [0, 0, TOUCH, 1];
-    check(b"0 and -0, a touch", &points, &lengths, &points, &touch, 4);
-    let same = [0.0f64; 4];
-    check(
-        b"0 and -0, a path of 0",
-        &points,
-        &lengths,
-        &same,
-        &touch,
-        4,
-    );
-    let jump = [0, 0, JUMP, 1];
-    check(b"0 and -0, a jump", &points, &lengths, &points, &jump, 4);
+    let touch = Handed {
+        points: &points,
+        lengths: &[1, 1],
+        path: &points,
+        marks: &[0, 0, TOUCH, 1],
+    };
+    check(rt, "0 and -0, a touch", touch, 4)?;
+    let same = Handed {
+        path: &[0.0; 4],
+        ..touch
+    };
+    check(rt, "0 and -0, a path of 0", same, 4)?;
+    let jump = Handed {
+        marks: &[0, 0, JUMP, 1],
+        ..touch
+    };
+    check(rt, "0 and -0, a jump", jump, 4)
 }
 
-// Parts of a path and of marks that are a point longer than the contour of two points, (0,0)(0,0).
-fn part(path: usize, marks: usize, work: usize)
-    requires path_bound { path ≤ 6 }
-    requires marks_bound { marks ≤ 6 }
-    requires work_bound { work ≤ 65538 }
-{
-    let points = [0.0f64; 4];
-    let lengths = [2u32; 1];
-    let places = [0.0f64; 6];
-    let kinds = [0, 0, CUT, 0, BACK_STEP, 0];
-    let name = b"2 points";
-    check(
-        name,
-        &points,
-        &lengths,
-        &places[..path],
-        &kinds[..marks],
-        work,
-    );
-}
-
-fn miscounted() {
-    part(4, 4, 3);
-    part(4, 4, 2);
-    part(6, 6, 3);
-    part(2, 2, 3);
-    part(0, 0, 3);
-    part(3, 4, 3);
-    part(5, 4, 3);
-    part(4, 2, 3);
-    part(4, 6, 3);
-    part(4, 3, 3);
-    part(4, 5, 3);
-    part(3, 4, 2);
-    part(4, 2, 2);
-    part(4, 6, 2);
+// Parts of a path and of marks that are a point longer than the contour of two points, (0,0)(0,0): each case has the lengths of the path, the
+// marks and the work slice.
+fn miscounted<R: Print + AllocGlobal>(rt: &R) -> io::Result<()> {
+    let path = [0.0f64; 6];
+    let marks = [0, 0, CUT, 0, BACK_STEP, 0];
+    for (places, kinds, work) in [
+        (4usize, 4usize, 3usize),
+        (4, 4, 2),
+        (6, 6, 3),
+        (2, 2, 3),
+        (0, 0, 3),
+        (3, 4, 3),
+        (5, 4, 3),
+        (4, 2, 3),
+        (4, 6, 3),
+        (4, 3, 3),
+        (4, 5, 3),
+        (3, 4, 2),
+        (4, 2, 2),
+        (4, 6, 2),
+    ] {
+        let h = Handed {
+            points: &[0.0; 4],
+            lengths: &[2],
+            path: &path[..places.min(6)],
+            marks: &marks[..kinds.min(6)],
+        };
+        check(rt, "2 points", h, work)?;
+    }
+    Ok(())
 }
 
 // What is wrong with the plate is told before the path's and the marks' lengths and the work.
-fn plate_first() {
-    let off = [0.0, 0.0, 0.0, next_above()];
-    let two = [2u32; 1];
-    let path = [0.0f64; 3];
-    let marks = [0u32; 2];
-    check(b"next above 1000000 at 3", &off, &two, &path, &marks, 0);
-    let one = [1u32; 1];
-    check(b"length 1, 4 coordinates", &off, &one, &path, &marks, 0);
-    let wrapped = [4294967295u32, 1];
-    check(
-        b"lengths 4294967295 and 1",
-        &off,
-        &wrapped,
-        &path,
-        &marks,
-        0,
-    );
-    let many = [0u32; 4097];
-    check(b"4097 contours", &off, &many, &path, &marks, 0);
+fn plate_first<R: Print + AllocGlobal>(rt: &R) -> io::Result<()> {
+    let off = Handed {
+        points: &[0.0, 0.0, 0.0, ABOVE],
+        lengths: &[2],
+        path: &[0.0; 3],
+        marks: &[0; 2],
+    };
+    check(rt, "next above 1000000 at 3", off, 0)?;
+    let one = Handed {
+        lengths: &[1],
+        ..off
+    };
+    check(rt, "length 1, 4 coordinates", one, 0)?;
+    let wrapped = Handed {
+        lengths: &[4294967295, 1],
+        ..off
+    };
+    check(rt, "lengths 4294967295 and 1", wrapped, 0)?;
+    let many = Handed {
+        lengths: &[0; 4097],
+        ..off
+    };
+    check(rt, "4097 contours", many, 0)
 }
 
-fn empty_contours() {
-    let none = [0.0f64; 0];
-    let no_marks = [0u32; 0];
-    let lengths = [0u32; 4096];
-    let name = b"4096 empty contours";
-    check(name, &none, &lengths, &none, &no_marks, 4096);
-    check(name, &none, &lengths, &none, &no_marks, 4095);
-    let path = [0.0f64; 2];
-    let marks = [0u32; 2];
-    check(name, &none, &lengths, &path, &marks, 4096);
-    let more = [0u32; 4097];
-    check(b"4097 empty contours", &none, &more, &none, &no_marks, 4097);
+fn empty_contours<R: Print + AllocGlobal>(rt: &R) -> io::Result<()> {
+    let none = Handed {
+        points: &[],
+        lengths: &[0; 4096],
+        path: &[],
+        marks: &[],
+    };
+    check(rt, "4096 empty contours", none, 4096)?;
+    check(rt, "4096 empty contours", none, 4095)?;
+    let point = Handed {
+        path: &[0.0; 2],
+        marks: &[0; 2],
+        ..none
+    };
+    check(rt, "4096 empty contours", point, 4096)?;
+    let more = Handed {
+        lengths: &[0; 4097],
+        ..none
+    };
+    check(rt, "4097 empty contours", more, 4097)
 }
 
-// Points (0, 0), (1, 0), (2, 0) and so on, of a slice of zeros.
-fn along(xs: &mut [f64]) {
-    let mut x = 0.0f64;
-    let mut i = 0;
-    while i < xs.len() {
-        xs[i] = x;
-        x = x + 1.0;
-        i += 2;
+// Marks of this kind over all of the slice, with the references r, r + 1, r + 2 and so on.
+fn mark_on(marks: &mut [u32], kind: u32, r: u32) {
+    for (mark, reference) in marks.chunks_exact_mut(2).zip(r..) {
+        mark[0] = kind;
+        mark[1] = reference;
     }
 }
 
-// Marks of this kind, from place i of the marks on, with the references r, r + 1, r + 2 and so on.
-fn mark_on(marks: &mut [u32], i: usize, kind: u32, r: u32)
-    requires marks_len_bound { length marks.old ≤ 131076 }
-    requires i_bound { i ≤ 4 }
-    requires r_bound { r ≤ 1 }
+// The marks of n path points: a start on vertex 0, and then marks of this kind, with the references r, r + 1, r + 2 and so on.
+fn marks_of<R: AllocGlobal>(rt: &R, n: usize, kind: u32, r: u32) -> io::Result<Vec<u32>>
+    requires { n ≤ 65538 }
 {
-    let mut reference = r;
-    let mut k = i;
-    while k + 1 < marks.len() {
-        marks[k] = kind;
-        marks[k + 1] = reference;
-        reference += 1;
-        k += 2;
+    let mut marks = vec![in rt.alloc(); 0u32; 2 * n]?;
+    if let Some(later) = marks.as_mut_slice().get_mut(2..) {
+        mark_on(later, kind, r);
     }
+    Ok(marks)
 }
 
-// The check call on a path of the first n numbers of the points, with as many numbers of the marks.
-fn check_along(name: &[u8], points: &[f64], lengths: &[u32], marks: &[u32], n: usize, work: usize)
-    requires n_in_bounds { n ≤ length points.now }
-    requires n_in_bounds_2 { n ≤ length marks.now }
-    requires work_bound { work ≤ 65538 }
+// n points along a line.
+fn points_along<R: AllocGlobal>(rt: &R, n: usize) -> io::Result<Vec<f64>>
+    requires { n ≤ 65538 }
 {
-    check(name, points, lengths, &points[..n], &marks[..n], work);
+    let mut points = vec![in rt.alloc(); 0.0f64; 2 * n]?;
+    along(points.as_mut_slice());
+    Ok(points)
+}
+
+// The check call on the first n numbers of a path and its marks.
+fn check_first<R: Print + AllocGlobal>(
+    rt: &R,
+    name: &str,
+    h: Handed<'_>,
+    n: usize,
+    work: usize,
+) -> io::Result<()> {
+    let first = Handed {
+        path: &h.path[..n.min(h.path.len())],
+        marks: &h.marks[..n.min(h.marks.len())],
+        ..h
+    };
+    check(rt, name, first, work)
 }
 
 // A start and 4,095 jumps, over 4,096 contours of a point.
-fn single_points() {
-    let mut points = [0.0f64; 8192];
-    along(&mut points);
-    let lengths = [1u32; 4096];
-    let mut marks = [0u32; 8192];
-    mark_on(&mut marks, 2, JUMP, 1);
-    let name = b"4096 contours of a point";
-    check_along(name, &points, &lengths, &marks, 8192, 8192);
-    check_along(name, &points, &lengths, &marks, 8192, 8191);
-    check_along(name, &points, &lengths, &marks, 8190, 8192);
-    check_along(name, &points, &lengths, &marks, 0, 8192);
+fn single_points<R: Print + AllocGlobal>(rt: &R) -> io::Result<()> {
+    let points = points_along(rt, 4096)?;
+    let marks = marks_of(rt, 4096, JUMP, 1)?;
+    let h = Handed {
+        points: points.as_slice(),
+        lengths: &[1; 4096],
+        path: points.as_slice(),
+        marks: marks.as_slice(),
+    };
+    let name = "4096 contours of a point";
+    check_first(rt, name, h, 8192, 8192)?;
+    check_first(rt, name, h, 8192, 8191)?;
+    check_first(rt, name, h, 8190, 8192)?;
+    check_first(rt, name, h, 0, 8192)
+}
+
+// Sets the last mark. A kind is a number here: 5 is tried too.
+fn set_last(marks: &mut [u32], kind: u32, reference: u32) {
+    if let [.., k, r] = marks {
+        *k = kind;
+        *r = reference;
+    }
 }
 
 // The same path with another last mark, path point 4,095's.
-fn last_mark(name: &[u8], kind: u32, r: u32) {
-    let mut points = [0.0f64; 8192];
-    along(&mut points);
-    let lengths = [1u32; 4096];
-    let mut marks = [0u32; 8192];
-    mark_on(&mut marks, 2, JUMP, 1);
-    marks[8190] = kind;
-    marks[8191] = r;
-    check(name, &points, &lengths, &points, &marks, 8192);
+fn last_mark<R: Print + AllocGlobal>(rt: &R, name: &str, kind: u32, r: u32) -> io::Result<()> {
+    let points = points_along(rt, 4096)?;
+    let mut marks = marks_of(rt, 4096, JUMP, 1)?;
+    set_last(marks.as_mut_slice(), kind, r);
+    let h = Handed {
+        points: points.as_slice(),
+        lengths: &[1; 4096],
+        path: points.as_slice(),
+        marks: marks.as_slice(),
+    };
+    print!(rt; "4096 contours of a point, ")?;
+    check(rt, name, h, 8192)
 }
 
-fn last_marks() {
-    last_mark(b"4096 contours of a point, last jump to 4095", JUMP, 4095);
-    last_mark(b"4096 contours of a point, last jump to 4094", JUMP, 4094);
-    last_mark(b"4096 contours of a point, last jump to 4096", JUMP, 4096);
-    last_mark(
-        b"4096 contours of a point, last jump to 4294967295",
-        JUMP,
-        4294967295,
-    );
-    last_mark(b"4096 contours of a point, last touch", TOUCH, 4095);
-    last_mark(b"4096 contours of a point, last start", 0, 4095);
-    last_mark(b"4096 contours of a point, last kind 5", 5, 4095);
+fn last_marks<R: Print + AllocGlobal>(rt: &R) -> io::Result<()> {
+    last_mark(rt, "last jump to 4095", JUMP, 4095)?;
+    last_mark(rt, "last jump to 4094", JUMP, 4094)?;
+    last_mark(rt, "last jump to 4096", JUMP, 4096)?;
+    last_mark(rt, "last jump to 4294967295", JUMP, 4294967295)?;
+    last_mark(rt, "last touch", TOUCH, 4095)?;
+    last_mark(rt, "last start", 0, 4095)?;
+    last_mark(rt, "last kind 5", 5, 4095)
 }
 
 // The last jump goes to the first contour, which was entered.
-fn entered_again() {
-    let mut points = [0.0f64; 8192];
-    along(&mut points);
-    let lengths = [1u32; 4096];
-    let mut path = [0.0f64; 8192];
-    along(&mut path);
-    path[8190] = 0.0;
-    let mut marks = [0u32; 8192];
-    mark_on(&mut marks, 2, JUMP, 1);
-    marks[8191] = 0;
-    let name = b"4096 contours of a point, the first again";
-    check(name, &points, &lengths, &path, &marks, 8192);
+fn entered_again<R: Print + AllocGlobal>(rt: &R) -> io::Result<()> {
+    let points = points_along(rt, 4096)?;
+    let mut path = points_along(rt, 4096)?;
+    if let [.., x, _] = path.as_mut_slice() {
+        *x = 0.0;
+    }
+    let mut marks = marks_of(rt, 4096, JUMP, 1)?;
+    set_last(marks.as_mut_slice(), JUMP, 0);
+    let h = Handed {
+        points: points.as_slice(),
+        lengths: &[1; 4096],
+        path: path.as_slice(),
+        marks: marks.as_slice(),
+    };
+    check(rt, "4096 contours of a point, the first again", h, 8192)
 }
 
 // A start and 4,095 touches: all points are (0, 0).
-fn touching_points() {
+fn touching_points<R: Print + AllocGlobal>(rt: &R) -> io::Result<()> {
     let points = [0.0f64; 8192];
-    let lengths = [1u32; 4096];
-    let mut marks = [0u32; 8192];
-    mark_on(&mut marks, 2, TOUCH, 1);
-    let name = b"4096 contours of (0,0)";
-    check(name, &points, &lengths, &points, &marks, 8192);
-    marks[8190] = JUMP;
-    check(name, &points, &lengths, &points, &marks, 8192);
+    let touches = marks_of(rt, 4096, TOUCH, 1)?;
+    let mut jump = marks_of(rt, 4096, TOUCH, 1)?;
+    set_last(jump.as_mut_slice(), JUMP, 4095);
+    let h = Handed {
+        points: &points,
+        lengths: &[1; 4096],
+        path: &points,
+        marks: touches.as_slice(),
+    };
+    check(rt, "4096 contours of (0,0)", h, 8192)?;
+    let last = Handed {
+        marks: jump.as_slice(),
+        ..h
+    };
+    check(rt, "4096 contours of (0,0)", last, 8192)
 }
 
 // A start and 65,535 cuts, along a contour of 65,536 points.
-fn cuts_along(n: usize, work: usize)
-    requires n_bound { n ≤ 131072 }
-    requires work_bound { work ≤ 65538 }
-{
-    let mut points = [0.0f64; 131072];
-    along(&mut points);
-    let lengths = [65536u32; 1];
-    let mut marks = [0u32; 131072];
-    mark_on(&mut marks, 2, CUT, 0);
-    check_along(b"65536 points", &points, &lengths, &marks, n, work);
-}
-
-fn one_contour() {
-    cuts_along(131072, 65537);
-    cuts_along(131072, 65536);
-    cuts_along(131070, 65537);
-    cuts_along(0, 65537);
+fn one_contour<R: Print + AllocGlobal>(rt: &R) -> io::Result<()> {
+    let points = points_along(rt, 65536)?;
+    let marks = marks_of(rt, 65536, CUT, 0)?;
+    let h = Handed {
+        points: points.as_slice(),
+        lengths: &[65536],
+        path: points.as_slice(),
+        marks: marks.as_slice(),
+    };
+    let name = "65536 points";
+    check_first(rt, name, h, 131072, 65537)?;
+    check_first(rt, name, h, 131072, 65536)?;
+    check_first(rt, name, h, 131070, 65537)?;
+    check_first(rt, name, h, 0, 65537)
 }
 
 // The same path with another last mark, path point 65,535's.
-fn last_cut(name: &[u8], kind: u32, r: u32) {
-    let mut points = [0.0f64; 131072];
-    along(&mut points);
-    let lengths = [65536u32; 1];
-    let mut marks = [0u32; 131072];
-    mark_on(&mut marks, 2, CUT, 0);
-    marks[131070] = kind;
-    marks[131071] = r;
-    check(name, &points, &lengths, &points, &marks, 65537);
+fn last_cut<R: Print + AllocGlobal>(rt: &R, name: &str, kind: u32, r: u32) -> io::Result<()> {
+    let points = points_along(rt, 65536)?;
+    let mut marks = marks_of(rt, 65536, CUT, 0)?;
+    set_last(marks.as_mut_slice(), kind, r);
+    let h = Handed {
+        points: points.as_slice(),
+        lengths: &[65536],
+        path: points.as_slice(),
+        marks: marks.as_slice(),
+    };
+    check(rt, name, h, 65537)
 }
 
-fn last_cuts() {
-    last_cut(b"65536 points, last cut 65534", CUT, 65534);
-    last_cut(b"65536 points, last cut 65535", CUT, 65535);
-    last_cut(b"65536 points, last cut 65533", CUT, 65533);
-    last_cut(b"65536 points, a jump to the last", JUMP, 65535);
+fn last_cuts<R: Print + AllocGlobal>(rt: &R) -> io::Result<()> {
+    last_cut(rt, "65536 points, last cut 65534", CUT, 65534)?;
+    last_cut(rt, "65536 points, last cut 65535", CUT, 65535)?;
+    last_cut(rt, "65536 points, last cut 65533", CUT, 65533)?;
+    last_cut(rt, "65536 points, a jump to the last", JUMP, 65535)
 }
 
 // Contours of 32,768 points each: no cut leads from one to the other.
-fn two_contours() {
-    let mut points = [0.0f64; 131072];
-    along(&mut points);
-    let lengths = [32768u32; 2];
-    let mut marks = [0u32; 131072];
-    mark_on(&mut marks, 2, CUT, 0);
-    let name = b"2 contours of 32768 points";
-    check(name, &points, &lengths, &points, &marks, 65538);
-    marks[65536] = JUMP;
-    marks[65537] = 32768;
-    check(name, &points, &lengths, &points, &marks, 65538);
-    check(name, &points, &lengths, &points, &marks, 65537);
+fn two_contours<R: Print + AllocGlobal>(rt: &R) -> io::Result<()> {
+    let points = points_along(rt, 65536)?;
+    let cuts = marks_of(rt, 65536, CUT, 0)?;
+    let mut jump = marks_of(rt, 65536, CUT, 0)?;
+    if let Some(mark) = jump.as_mut_slice().get_mut(65536..65538) {
+        mark_on(mark, JUMP, 32768);
+    }
+    let h = Handed {
+        points: points.as_slice(),
+        lengths: &[32768, 32768],
+        path: points.as_slice(),
+        marks: cuts.as_slice(),
+    };
+    let name = "2 contours of 32768 points";
+    check(rt, name, h, 65538)?;
+    let both = Handed {
+        marks: jump.as_slice(),
+        ..h
+    };
+    check(rt, name, both, 65538)?;
+    check(rt, name, both, 65537)
 }
 
 // Points (0, 0), (1, 0), (0, 0), (1, 0) and so on, of a slice of zeros.
 fn to_and_fro(xs: &mut [f64]) {
-    let mut i = 2;
-    while i < xs.len() {
-        xs[i] = 1.0;
-        i += 4;
+    for pair in xs.chunks_exact_mut(4) {
+        pair[2] = 1.0;
     }
 }
 
 // A cut and 65,536 back-steps along it, to and fro: a path may have more points than a plate.
-fn back_steps() {
-    let points = [0.0, 0.0, 1.0, 0.0];
-    let lengths = [2u32; 1];
-    let mut path = [0.0f64; 131076];
-    to_and_fro(&mut path);
-    let mut marks = [0u32; 131076];
-    marks[2] = CUT;
-    mark_on(&mut marks, 4, BACK_STEP, 0);
-    let name = b"2 points, 65536 back-steps";
-    check(name, &points, &lengths, &path, &marks, 3);
-    let later = b"2 points, 65536 back-steps, one along a later pair";
-    marks[131073] = 65536;
-    check(later, &points, &lengths, &path, &marks, 3);
+fn back_steps<R: Print + AllocGlobal>(rt: &R) -> io::Result<()> {
+    let mut path = vec![in rt.alloc(); 0.0f64; 131076]?;
+    to_and_fro(path.as_mut_slice());
+    let mut marks = vec![in rt.alloc(); 0u32; 131076]?;
+    if let Some((first, later)) = marks.as_mut_slice().split_at_mut_checked(4) {
+        set_last(first, CUT, 0);
+        mark_on(later, BACK_STEP, 0);
+    }
+    let h = Handed {
+        points: &[0.0, 0.0, 1.0, 0.0],
+        lengths: &[2],
+        path: path.as_slice(),
+        marks: marks.as_slice(),
+    };
+    check(rt, "2 points, 65536 back-steps", h, 3)?;
+    let mut altered = marks.clone()?;
+    if let Some(mark) = altered.as_mut_slice().get_mut(131072..131074) {
+        mark_on(mark, BACK_STEP, 65536);
+    }
+    let later = Handed {
+        marks: altered.as_slice(),
+        ..h
+    };
+    let name = "2 points, 65536 back-steps, one along a later pair";
+    check(rt, name, later, 3)
 }
 
-fn too_many_points() {
-    let points = [0.0f64; 131074];
-    let lengths = [65537u32; 1];
-    let path = [0.0f64; 2];
-    let marks = [0u32; 2];
-    check(b"65537 points", &points, &lengths, &path, &marks, 65538);
+fn too_many_points<R: Print + AllocGlobal>(rt: &R) -> io::Result<()> {
+    let points = vec![in rt.alloc(); 0.0f64; 131074]?;
+    let h = Handed {
+        points: points.as_slice(),
+        lengths: &[65537],
+        path: &[0.0; 2],
+        marks: &[0; 2],
+    };
+    check(rt, "65537 points", h, 65538)
 }
 
-fn main() {
-    coordinates();
-    path_coordinates();
-    zeros();
-    miscounted();
-    plate_first();
-    empty_contours();
-    single_points();
-    last_marks();
-    entered_again();
-    touching_points();
-    one_contour();
-    last_cuts();
-    two_contours();
-    back_steps();
-    too_many_points();
+fn main(rt: HostRuntime) -> io::Result<()> {
+    coordinates(&rt)?;
+    path_coordinates(&rt)?;
+    zeros(&rt)?;
+    miscounted(&rt)?;
+    plate_first(&rt)?;
+    empty_contours(&rt)?;
+    single_points(&rt)?;
+    last_marks(&rt)?;
+    entered_again(&rt)?;
+    touching_points(&rt)?;
+    one_contour(&rt)?;
+    last_cuts(&rt)?;
+    two_contours(&rt)?;
+    back_steps(&rt)?;
+    too_many_points(&rt)
 }

@@ -1,6 +1,6 @@
 -- One cell is listed: nothing is written where it carries this turn's flag, else its flag and a new last entry. Assumes nothing.
 use mathlib.Core.Path.{◌≡◌, refl, sym, ap, subst, ◌∙◌}
-use mathlib.Core.Bool.{Bool, true, false, ◌||◌}
+use mathlib.Core.Bool.{true, false, ◌||◌}
 use mathlib.Core.List.{List, [], ◌∷◌, ◌++◌}
 use Prim.Native.Nat.{ℕ, suc, ◌+◌, ◌≤◌, ◌<◌}
 use native.Mathlib.Decide.{ℕ_discrete}
@@ -10,6 +10,8 @@ use lib.Dec.{eqb}
 use lib.ListN.{length, get_or, set, drop, length-set, length-drop}
 use lib.Seq.{get_or-set_same, get_or-set_other, drop-set-add, drop-set-lt, take-suc-set}
 use borrow.Author.Tests.{eq-eqb, ne_eqb}
+use Rattle.std.proofs.Math.Bool.{or-false, or-true}
+use Rattle.std.proofs.lemmas.List.Recursion.{or_push}
 use Rattle.rules.specs.Tools.{pick}
 use Rattle.rules.specs.SamplesAndCache.{met, listed}
 use Rattle.layout.specs.Laid.{Laid}
@@ -17,22 +19,9 @@ use Rattle.layout.specs.declared.Layout.{Layout}
 use Rattle.listing.specs.Listing.{list_of, flagged, Listing, Lists}
 use Rattle.listing.proofs.Counting.{tally_none, tally_more, tally_room}
 
-or_false : (b : Bool) → (b || false) ≡ b
-or_false true = refl
-or_false false = refl
-
-or_true : (b : Bool) → (b || true) ≡ true
-or_true true = refl
-or_true false = refl
-
 met_snoc : (cs : List ℕ) (x c : ℕ) → met (cs ++ (x ∷ [])) c ≡ (met cs c || eqb x c)
 unfolding met
-met_snoc [] x c = or_false (eqb x c)
-met_snoc (y ∷ cs) x c = rw (met_snoc cs x c) (go (eqb y c))
-  where
-    go : (b : Bool) → (b || (met cs c || eqb x c)) ≡ ((b || met cs c) || eqb x c)
-    go true = refl
-    go false = refl
+met_snoc cs x c = or_push (λ ds. met ds c) (λ y. eqb y c) refl (λ y ys. refl) cs x
 
 -- no cell is listed
 pub listing_none : (lay : Layout) (w : List ℕ) (turn : ℕ) → Laid lay (length w) → ((c : ℕ) → c < lay.cells → get_or w (lay.flags + c) 0 < turn) →
@@ -102,8 +91,8 @@ module _ (lay : Layout) (w : List ℕ) (turn n cell : ℕ) (h : Listing lay w tu
         }
       where
         one : (c : ℕ) → c < lay.cells → Dec (c ≡ cell) → eqb (get_or longer (lay.flags + c) 0) turn ≡ (met (list_of lay w n) c || eqb cell c)
-        one c g (yes e) = rw (e, flag_same, eq-eqb turn turn refl, eq-eqb cell cell refl) (sym (or_true (met (list_of lay w n) cell)))
-        one c g (no e) = rw (flag_other c e g, ne_eqb cell c (λ f. e (sym f))) (h.met_is c g ∙ sym (or_false (met (list_of lay w n) c)))
+        one c g (yes e) = rw (e, flag_same, eq-eqb turn turn refl, eq-eqb cell cell refl) (sym (or-true (met (list_of lay w n) cell)))
+        one c g (no e) = rw (flag_other c e g, ne_eqb cell c (λ f. e (sym f))) (h.met_is c g ∙ sym (or-false (met (list_of lay w n) c)))
 
         place : (i : ℕ) → i < n + 1 → Dec (i ≡ n) → get_or longer (lay.list + i) 0 < lay.cells
         place i g (yes e) = rw (e, get_or-set_same flags' (lay.list + n) cell 0 (simp length-set (omega (arith, h.laid, list_room)))) l

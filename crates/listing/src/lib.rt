@@ -6,17 +6,18 @@ ghost use Rattle.rules.specs.Tools.{foldl, up_from};
 ghost use Rattle.rules.specs.GridAndNearest.{square};
 ghost use Rattle.rules.specs.SamplesAndCache.{listed, listed_square, cells_around};
 ghost use Rattle.layout.specs.Parts.{from};
-ghost use Rattle.grid.specs.Sane.{Sane};
-ghost use Rattle.samples.specs.Plated.{Plated};
+ghost use Rattle.samples.specs.Framed.{PlatedBy};
 ghost use Rattle.samples.specs.Vertices.{vertex_from};
 ghost use Rattle.listing.specs.Listing.{Listing, Lists};
 
-use grid::{Cell, cell_of};
+use grid::{Cell, Grid};
 use layout::Layout;
-use rules::{SpatialGrid, Vertex};
-use start::{Contour, point_at};
+use rules::{Vertex, point_at};
+use samples::Frame;
+use start::Contour;
 
 // Lists a cell unless it is listed: its flag is this turn's number then. The answer is how many are listed.
+// Slice, parts, turn and count stay parameters: a struct of them would add to each contract that the first three stay.
 fn list_cell(work: &mut [u32], lay: Layout, turn: u32, count: usize, cell: u32) -> usize
     requires { (Listing lay work.old turn count) × (cell < lay.cells) }
     ensures { Lists lay turn work.old count work.new result (λ cs. listed cs cell) }
@@ -47,7 +48,7 @@ fn list_row(work: &mut [u32], lay: Layout, turn: u32, count: usize, start: u32, 
 fn first_near(x: u32) -> u32
     ensures { result ≡ x - 1 }
 {
-    if x == 0 { 0 } else { x - 1 }
+    x.saturating_sub(1)
 }
 
 // The one behind the last within 1 of x, of `cells` many.
@@ -55,28 +56,21 @@ fn end_near(x: u32, cells: u32) -> u32
     requires { (x < cells) × (cells ≤ 54) }
     ensures { result ≡ min (x + 1) (cells - 1) + 1 }
 {
-    if x + 1 < cells { x + 2 } else { cells }
+    cells.min(x + 2)
 }
 
 // Lists the cells within 1 of a cell, by rows, then columns.
-fn list_square(
-    g: SpatialGrid,
-    work: &mut [u32],
-    lay: Layout,
-    turn: u32,
-    count: usize,
-    c: Cell,
-) -> usize
-    requires { (Listing lay work.old turn count) × (Sane g) × (g.cols * g.rows ≡ lay.cells)
-        × (c.col < g.cols) × (c.row < g.rows) }
-    ensures { Lists lay turn work.old count work.new result
+fn list_square(grid: Grid, work: &mut [u32], lay: Layout, turn: u32, count: usize, c: Cell) -> usize
+    requires { (Listing lay work.old turn count) × (grid.spatial.cols * grid.spatial.rows ≡ lay.cells)
+        × (c.col < grid.spatial.cols) × (c.row < grid.spatial.rows) }
+    ensures { let g = grid.spatial in Lists lay turn work.old count work.new result
         (λ cs. listed_square g cs (square g (record { col = c.col; row = c.row }) 1)) }
 {
-    let cols = g.cols;
+    let cols = grid.spatial.cols;
     let left = first_near(c.col);
     let right = end_near(c.col, cols);
     let top = first_near(c.row);
-    let bottom = end_near(c.row, g.rows);
+    let bottom = end_near(c.row, grid.spatial.rows);
     let mut n = count;
     for row in top..bottom {
         let a = row * cols;
@@ -94,24 +88,17 @@ fn vertex_of(c: Contour, i: u32) -> Vertex
 }
 
 // Lists the cells around a contour, its points in vertex order; no cell carries this turn's flag before.
-pub fn list_cells(
-    points: &[f64],
-    g: SpatialGrid,
-    work: &mut [u32],
-    lay: Layout,
-    turn: u32,
-    c: Contour,
-) -> usize
-    requires { (Plated points.now g lay work.old) × (c.first.0 + c.last < lay.points)
-        × ((k : ℕ) → k < lay.cells → from work.old lay.flags k < turn) }
-    ensures { Lists lay turn work.old 0 work.new result
-        (λ _. cells_around (vertex_from points.now c.first.0) g c.last) }
+pub fn list_cells(frame: &Frame<'_>, work: &mut [u32], turn: u32, c: Contour) -> usize
+    requires { (PlatedBy frame.now work.old) × (c.first.0 + c.last < frame.now.layout.points)
+        × ((k : ℕ) → k < frame.now.layout.cells → from work.old frame.now.layout.flags k < turn) }
+    ensures { Lists frame.now.layout turn work.old 0 work.new result
+        (λ _. cells_around (vertex_from frame.now.points.now c.first.0) frame.now.grid.spatial c.last) }
 {
-    let end = c.last + 1;
+    let grid = frame.grid;
     let mut n: usize = 0;
-    for i in 0..end {
-        let p = point_at(points, vertex_of(c, i));
-        n = list_square(g, &mut *work, lay, turn, n, cell_of(g, p));
+    for i in 0..c.last + 1 {
+        let p = point_at(frame.points, vertex_of(c, i));
+        n = list_square(grid, &mut *work, frame.layout, turn, n, grid.cell_of(p));
     }
     n
 }

@@ -1,4 +1,5 @@
 pub mod Bytes
 pub mod Numbers
 pub mod Stepping
+pub mod Widths
 pub mod ByteRows

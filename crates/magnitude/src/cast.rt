@@ -1,4 +1,4 @@
-// Casts to u32.
+// Casts to u32, over bits and comparisons, as the documents ask.
 ghost use Rattle.std.specs.Prelude.{◌≡◌};
 ghost use Rattle.std.specs.Float.Ieee.{to_unsigned};
 ghost use Rattle.rules.specs.GridAndNearest.{ceiling};

@@ -19,7 +19,7 @@ pub fn magnitude_of(x: f64) -> Scaled
     requires { T (finite x) }
     ensures { IsMagnitude x result.significand result.exponent }
 {
-    let b = f64::to_bits(x) % 9223372036854775808;
+    let b = x.to_bits() % 9223372036854775808;
     let e = b / 4503599627370496;
     let t = b % 4503599627370496;
     if e == 0 {
@@ -46,7 +46,7 @@ pub fn normalized(m: Scaled) -> Scaled
             exponent: m.exponent + 56,
         };
     }
-    let zeros = u64::leading_zeros(m.significand) as u64;
+    let zeros = m.significand.leading_zeros() as u64;
     Scaled {
         significand: m.significand << (zeros - 3),
         exponent: m.exponent + 67 - zeros,

@@ -1,21 +1,21 @@
-// Which kind the mark of a landing after the start has.
+// The mark of a landing after the start.
 #![tactic(auto)]
 
 ghost use Rattle.std.specs.Prelude.{◌≡◌};
+ghost use Rattle.rules.specs.Marks.{kind_of, reference_of};
 ghost use Rattle.rules.specs.RetraceAndMarks as marks;
 
-use rules::{JUMP, Point, TOUCH};
+use rules::{Mark, Point, Vertex};
 
-// Whether two points are numerically equal: 0 and −0 are.
-pub fn coincide(a: Point, b: Point) -> bool
-    ensures { result ≡ marks.coincide a b }
+// From the point left to vertex v's, the landing: a touch is a jump between equal points.
+#[tactic(auto, unfolding(rules::specs::RetraceAndMarks::landing_kind, rules::specs::RetraceAndMarks::coincide, rules::specs::Tools::pick))]
+pub fn landing_mark(left: Point, landing: Point, v: Vertex) -> Mark
+    ensures kind { kind_of result ≡ marks.landing_kind left landing }
+    ensures reference { reference_of result ≡ v.0 }
 {
-    a.x == b.x && a.y == b.y
-}
-
-// From the point left to the landing: a touch is a jump between equal points.
-pub fn landing_kind(left: Point, landing: Point) -> u32
-    ensures { result ≡ marks.landing_kind left landing }
-{
-    if coincide(left, landing) { TOUCH } else { JUMP }
+    if left == landing {
+        Mark::Touch(v)
+    } else {
+        Mark::Jump(v)
+    }
 }

@@ -8,6 +8,8 @@ use native.Mathlib.Omega.{arith}
 use native.Mathlib.Decide.{dec_lt}
 use lib.Ieee.{Float, le, lt}
 use mathlib.Core.Option.{Option, none, some}
+use Rattle.std.specs.Prelude as prelude
+use Rattle.std.specs.Prelude.{Some, None}
 use Rattle.rules.specs.Tools.{pick, leads}
 use Rattle.rules.specs.HandedOver.{Plate, Contour, at, vertex_at, layer_at}
 use Rattle.rules.specs.Distances.{distance_squared}
@@ -23,12 +25,11 @@ use Rattle.start.specs.Oriented.{oriented_of}
 use Rattle.start.specs.declared.Oriented.{Oriented}
 use Rattle.optimize.specs.Choice.{lowest_of, Stands}
 use Rattle.optimize.specs.declared.nearest.Choice.{Choice}
-use Rattle.optimize.specs.declared.nearest.Choice.TheVariants.{At, Nothing}
 
-pub later : (words : List ℕ) (n : ℕ) (b : Choice) → Stands words n b → Stands words (n + 1) b
+pub later : (words : List ℕ) (n : ℕ) (b : prelude.Option Choice) → Stands words n b → Stands words (n + 1) b
 unfolding Stands
-later words n (At i s) h = let a = h.0 in (omega arith, h.1)
-later words n Nothing h = tt
+later words n (Some c) h = let a = h.0 in (omega arith, h.1)
+later words n None h = tt
 
 module _ (p : Plate) (q : Point) (c : Contour) (f r : Oriented) (ef : oriented_of f ≡ oriented p q false c) (er : oriented_of r ≡ oriented p q true c) where
   nearer_by : nearer_sense p q c ≡ pick (le f.squared r.squared) (oriented_of f) (oriented_of r)

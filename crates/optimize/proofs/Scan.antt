@@ -1,11 +1,12 @@
 -- A packed contour read back, and the scan over the waiting contours, one at a time. Assumes nothing.
 use mathlib.Core.Path.{◌≡◌, refl, sym, ap, ◌∙◌}
-use mathlib.Core.List.{List, [], ◌∷◌, map}
+use mathlib.Core.List.{List, map}
 use mathlib.Core.Option.{Option}
-use Prim.Native.Nat.{ℕ, zero, suc, ◌+◌, ◌<◌, ◌≤◌}
+use Prim.Native.Nat.{ℕ, suc, ◌+◌, ◌<◌, ◌≤◌}
 use native.Mathlib.Numerals.{add-one}
 use native.Mathlib.Omega.{arith}
 use lib.ListN.{length, get_or, drop, drop_of_length-le, length-map}
+use Rattle.std.proofs.lemmas.List.{get_or-map}
 use lib.Seq.{drop-cons}
 use Rattle.rules.specs.Tools.{foldl}
 use Rattle.rules.specs.HandedOver.{Plate, Contour}
@@ -17,11 +18,6 @@ use Rattle.path.specs.Layers.{leads_in}
 use Rattle.start.specs.Oriented.{contour_of}
 use Rattle.start.specs.declared.Contour as code
 use Rattle.packed_contours.specs.Packed.{packed, number_in, first_in, Placed}
-
-pub get_d_map : {A B : Type 0} (f : A → B) (xs : List A) (i : ℕ) (a : A) (b : B) → i < length xs → get_or (map f xs) i b ≡ f (get_or xs i a)
-get_d_map f [] i a b h = absurd (omega arith)
-get_d_map f (x ∷ xs) zero a b h = refl
-get_d_map f (x ∷ xs) (suc i) a b h = get_d_map f xs i a b (omega arith)
 
 -- what stands where no contour does
 abbrev pub blank : Contour
@@ -44,7 +40,7 @@ module _ (ns words : List ℕ) (cs : List Contour) (e : words ≡ map packed cs)
   word_in = omega (arith, ap length e, length-map cs packed)
 
   pub word_is : get_or words i 0 ≡ packed here
-  word_is = ap (λ (ws : List ℕ). get_or ws i 0) e ∙ get_d_map packed cs i blank 0 word_in
+  word_is = ap (λ (ws : List ℕ). get_or ws i 0) e ∙ get_or-map packed cs i blank 0 word_in
 
   pub word_placed : Placed ns here
   word_placed = all-at (Placed ns) blank cs a i word_in

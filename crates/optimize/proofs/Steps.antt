@@ -8,7 +8,8 @@ use native.Mathlib.Omega.{arith}
 use native.Mathlib.Decide.{dec_lt}
 use mathlib.Core.Logic.{inl, inr}
 use lib.Ieee.{le}
-use lib.ListN.{length, get_or, take, drop, length-map, length-append}
+use lib.ListN.{length, get_or, take, drop, length-map, length-append, length-take, length-drop}
+use Rattle.std.proofs.lemmas.List.{take-map, drop-map, map-append, get_or-map}
 use lib.Seq.{take_at, drop_at, take-append-le, drop-append-le, drop-drop}
 use Rattle.rules.specs.Tools.{pick, foremost}
 use Rattle.rules.specs.HandedOver.{Plate, Contour, contours}
@@ -24,7 +25,7 @@ use Rattle.path.specs.Accepted.{Accepted}
 use Rattle.packed_contours.specs.Packed.{packed, packed_sense, Placed}
 use Rattle.packed_contours.specs.Contours.{all_placed}
 use Rattle.optimize.specs.State.{State, Whole}
-use Rattle.optimize.proofs.Scan.{blank, get_d_map}
+use Rattle.optimize.proofs.Scan.{blank}
 
 -- ---- a packed contour is one contour
 
@@ -61,36 +62,17 @@ taken us bs ds s k word e h =
 
 -- ---- maps of parts
 
-map_take : (f : Contour → ℕ) (k : ℕ) (cs : List Contour) → take k (map f cs) ≡ map f (take k cs)
-map_take f zero cs = refl
-map_take f (suc k) [] = refl
-map_take f (suc k) (c ∷ cs) = ap (λ (ws : List ℕ). f c ∷ ws) (map_take f k cs)
-
-map_drop : (f : Contour → ℕ) (k : ℕ) (cs : List Contour) → drop k (map f cs) ≡ map f (drop k cs)
-map_drop f zero cs = refl
-map_drop f (suc k) [] = refl
-map_drop f (suc k) (c ∷ cs) = map_drop f k cs
-
-map_append : {A B : Type 0} (f : A → B) (xs ys : List A) → map f (xs ++ ys) ≡ map f xs ++ map f ys
-map_append f [] ys = refl
-map_append {A} {B} f (x ∷ xs) ys = ap {B = List B} (λ zs. f x ∷ zs) (map_append f xs ys)
-
 -- those that are left when the one at place k is taken out
 left_words : (cs : List Contour) (k : ℕ) (c : Contour) → Rising cs → k < length cs → get_or cs k blank ≡ c →
     take k (map packed cs) ++ drop (suc k) (map packed cs) ≡ map packed (others c cs)
 left_words cs k c r h e =
-    ap₂ (λ (u v : List ℕ). u ++ v) (map_take packed k cs) (map_drop packed (suc k) cs)
-    ∙ sym (map_append packed (take k cs) (drop (suc k) cs))
+    ap₂ (λ (u v : List ℕ). u ++ v) (take-map packed k cs) (drop-map packed (suc k) cs)
+    ∙ sym (map-append packed (take k cs) (drop (suc k) cs))
     ∙ ap (map packed) (sym (others_at blank cs k r h) ∙ ap (λ (d : Contour). others d cs) e)
-
-length_drop_take : (cs : List Contour) (k : ℕ) → k < length cs → length (take k cs ++ drop (suc k) cs) + 1 ≡ length cs
-length_drop_take [] k h = absurd (omega arith)
-length_drop_take (c ∷ cs) zero h = omega arith
-length_drop_take (c ∷ cs) (suc k) h = omega (arith, length_drop_take cs k (omega arith))
 
 left_length : (cs : List Contour) (k : ℕ) (c : Contour) → Rising cs → k < length cs → get_or cs k blank ≡ c → length (others c cs) + 1 ≡ length cs
 left_length cs k c r h e =
-    ap (λ (ds : List Contour). length ds + 1) (ap (λ (d : Contour). others d cs) (sym e) ∙ others_at blank cs k r h) ∙ length_drop_take cs k h
+    ap (λ (ds : List Contour). length ds + 1) (ap (λ (d : Contour). others d cs) (sym e) ∙ others_at blank cs k r h) ∙ simp (length-append, length-take, length-drop) (omega arith)
 
 -- ---- the definitions' order
 
@@ -142,7 +124,7 @@ module _ (p : Plate) (words : List ℕ) (n done : ℕ) (last : Oriented) (st : S
       let cs = st.left in
       let k = winner_placed p p.lengths (last_end p last) cs t st.placed w in
       let c : get_or cs i blank ≡ t.contour =
-      packed_same p.lengths (get_or cs i blank) t.contour (all-at (Placed p.lengths) blank cs st.placed i h) k (sym (get_d_map packed cs i blank 0 h) ∙ e) in
+      packed_same p.lengths (get_or cs i blank) t.contour (all-at (Placed p.lengths) blank cs st.placed i h) k (sym (get_or-map packed cs i blank 0 h) ∙ e) in
       let l = left_length cs i t.contour st.rising h c in
       let m : length cs ≡ suc (length (others t.contour cs)) = omega arith in
       record {
@@ -155,7 +137,7 @@ module _ (p : Plate) (words : List ℕ) (n done : ℕ) (last : Oriented) (st : S
             f
             ∙ ap (λ (ws : List ℕ). take done ws ++ (packed_sense t ∷ (take (done + i - done) (drop done ws) ++ drop (done + i + 1) ws))) st.parts
             ∙ taken (map packed_sense st.ordered) (map packed cs) st.tail done i (packed_sense t) (length-map st.ordered packed_sense ∙ sym st.count) (omega (arith, length-map cs packed))
-            ∙ ap₂ (λ (u v : List ℕ). u ++ (v ++ st.tail)) (sym (map_append packed_sense st.ordered (t ∷ []))) (left_words cs i t.contour st.rising h c);
+            ∙ ap₂ (λ (u v : List ℕ). u ++ (v ++ st.tail)) (sym (map-append packed_sense st.ordered (t ∷ []))) (left_words cs i t.contour st.rising h c);
         result =
             st.result
             ∙ ap (λ (j : ℕ). st.ordered ++ order_after p j cs last) m
@@ -177,7 +159,7 @@ among_at c (d ∷ ds) (inr m) = let w = among_at c ds m in let h = w.1 in (suc w
 pub before_end : (c : Contour) (cs : List Contour) (r : ℕ) → Among c cs → ((j : ℕ) → j < r → get_or (map packed cs) j 0 ≡ packed c → ⊥) → r < length cs
 before_end c cs r m f =
     let w = among_at c cs m in
-    go (dec_lt w.0 r) w.1 (get_d_map packed cs w.0 blank 0 w.1 ∙ ap packed w.2)
+    go (dec_lt w.0 r) w.1 (get_or-map packed cs w.0 blank 0 w.1 ∙ ap packed w.2)
   where
     go : {j : ℕ} → Dec (j < r) → j < length cs → get_or (map packed cs) j 0 ≡ packed c → r < length cs
     go {j} (yes h) l e = absurd (f j h e)
@@ -199,7 +181,7 @@ first_state p words tail n k s after a e m b q h g f =
     let cs = contours p in
     let r = contours_rise p in
     let c : get_or cs k blank ≡ s.contour =
-    packed_same p.lengths (get_or cs k blank) s.contour (all-at (Placed p.lengths) blank cs (all_placed p a) k h) q (sym (get_d_map packed cs k blank 0 h) ∙ g) in
+    packed_same p.lengths (get_or cs k blank) s.contour (all-at (Placed p.lengths) blank cs (all_placed p a) k h) q (sym (get_or-map packed cs k blank 0 h) ∙ g) in
     let l = left_length cs k s.contour r h c in
     let i : k - 0 ≡ 0 + k - 0 = omega arith in
     let j : k + 1 ≡ 0 + k + 1 = omega arith in

@@ -1,5 +1,6 @@
 -- A choice of the code as the definitions have it. Definitions only.
-use Rattle.std.specs.Prelude.{◌≡◌, List, ℕ, ◌<◌, get_or}
+use Rattle.std.specs.Prelude.{◌≡◌, List, ℕ, ◌<◌, get_or, Some, None}
+use Rattle.std.specs.Prelude as prelude
 use Rattle.std.proofs.Math.Option.{Option, none, some}
 use Rattle.rules.specs.Tools.{highest_layer}
 use Rattle.rules.specs.HandedOver.{Plate}
@@ -7,11 +8,10 @@ use Rattle.rules.specs.Start.{Oriented, layer_of}
 use Rattle.start.specs.Oriented.{contour_of, oriented_of}
 use Rattle.packed_contours.specs.Packed.{packed}
 use Rattle.optimize.specs.declared.nearest.Choice.{Choice}
-use Rattle.optimize.specs.declared.nearest.Choice.TheVariants.{At, Nothing}
 
-unfoldable pub choice_of : Choice → Option Oriented
-choice_of (At i s) = some (oriented_of s)
-choice_of Nothing = none
+unfoldable pub choice_of : prelude.Option Choice → Option Oriented
+choice_of (Some c) = some (oriented_of c.oriented)
+choice_of None = none
 
 -- the layer of what is chosen; where nothing is, the highest that takes part
 unfoldable pub lowest_of : Plate → Option Oriented → ℕ
@@ -19,6 +19,6 @@ lowest_of p none = highest_layer
 lowest_of p (some s) = layer_of p s
 
 -- the chosen contour stands at its place, which is below n
-unfoldable pub Stands : List ℕ → ℕ → Choice → Type 0
-Stands words n (At i s) = (i < n) × (get_or words i 0 ≡ packed (contour_of s.contour))
-Stands words n Nothing = Unit {0}
+unfoldable pub Stands : List ℕ → ℕ → prelude.Option Choice → Type 0
+Stands words n (Some c) = (c.place < n) × (get_or words c.place 0 ≡ packed (contour_of c.oriented.contour))
+Stands words n None = Unit {0}

@@ -1,15 +1,14 @@
 -- The work slice while contours are put in order: those in order, packed with their senses, then those that wait, packed, in the order of the contours.
 -- Definitions only.
-use Rattle.std.specs.Prelude.{◌≡◌, List, ◌++◌, map, ℕ, ◌+◌, length, take}
+use Rattle.std.specs.Prelude.{◌≡◌, List, ◌++◌, map, ℕ, ◌+◌, length, take, Option, Some, None}
 use Rattle.rules.specs.HandedOver.{Plate, Contour}
 use Rattle.rules.specs.Start.{Oriented}
 use Rattle.rules.specs.OrderAndStraight.{order_after, order}
 use Rattle.path.specs.Lists.{All}
 use Rattle.path.specs.Contours.{Rising}
 use Rattle.start.specs.Oriented.{oriented_of}
+use Rattle.start.specs.declared.Oriented as code
 use Rattle.packed_contours.specs.Packed.{packed, packed_sense, Placed}
-use Rattle.optimize.specs.declared.Next.{Next}
-use Rattle.optimize.specs.declared.Next.TheVariants.{Then, Nothing}
 
 -- n contours in all, of which `done` are in order, `last` being the last of them
 pub record State (p : Plate) (words : List ℕ) (n done : ℕ) (last : Oriented) : Type 0 where
@@ -29,6 +28,6 @@ abbrev pub Whole : Plate → List ℕ → ℕ → Type 0
 Whole p words done = (done ≡ length (order p)) × (take done words ≡ map packed_sense (order p))
 
 -- after one more step: where no contour that waits takes part, the order is whole
-unfoldable pub Continued : Plate → List ℕ → ℕ → ℕ → Next → Type 0
-Continued p words n done (Then t) = State p words n (done + 1) (oriented_of t)
-Continued p words n done Nothing = Whole p words done
+unfoldable pub Continued : Plate → List ℕ → ℕ → ℕ → Option code.Oriented → Type 0
+Continued p words n done (Some t) = State p words n (done + 1) (oriented_of t)
+Continued p words n done None = Whole p words done

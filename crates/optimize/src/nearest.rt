@@ -1,8 +1,8 @@
 // The waiting contour of the lowest layer whose nearer end is nearest to a point.
-ghost use Rattle.std.specs.Prelude.{◌≡◌, true, false, List, map, ℕ, ◌+◌, ◌*◌, ◌≤◌, ◌<◌, min, length, get_or};
-ghost use Rattle.rules.specs.Tools.{sum, leads, foremost};
+ghost use Rattle.std.specs.Prelude.{◌≡◌, true, false, List, map, ℕ, ◌+◌, ◌*◌, ◌≤◌, ◌<◌, length, get_or};
+ghost use Rattle.rules.specs.Tools.{leads, foremost};
 ghost use Rattle.rules.specs.HandedOver as handed;
-ghost use Rattle.rules.specs.HandedOver.{Plate, layer_at};
+ghost use Rattle.rules.specs.HandedOver.{Plate, plate_of, layer_at};
 ghost use Rattle.rules.specs.Start.{layer_of};
 ghost use Rattle.rules.specs.OrderAndStraight.{nearer_sense, nearer_end};
 ghost use Rattle.path.specs.Lists.{All};
@@ -12,133 +12,128 @@ ghost use Rattle.packed_contours.specs.Packed.{packed, Placed};
 ghost use Rattle.optimize.specs.Choice.{choice_of, lowest_of, Stands};
 
 use packed_contours::contour_at;
+use plate::checked_input::CheckedInput;
 use point::bound::is_beyond;
-use rules::{HIGHEST_LAYER, Point, Vertex};
-use start::{Contour, Oriented, orient, point_at};
+use rules::{HIGHEST_LAYER, Point, Vertex, point_at};
+use start::{Contour, Oriented, orient};
 
-// What the scan has so far: a place among the waiting contours and the contour there, in its nearer sense.
+// What the scan has chosen: a place among the waiting contours and the contour there, in its nearer sense.
 #[derive(Clone, Copy)]
-pub enum Choice {
-    At(u32, Oriented),
-    Nothing,
+pub struct Choice {
+    pub place: usize,
+    pub oriented: Oriented,
 }
 
-// Forward where forward ≤ reverse.
-pub fn nearer_sense(points: &[f64], q: Point, c: Contour) -> Oriented
-    requires { (c.first.0 + c.last < 65536) × (2 * (c.first.0 + c.last) + 1 < length points.now) }
-    ensures { (result.contour ≡ c) × ((p : Plate) → p.points ≡ points.now → oriented_of result ≡ nearer_sense p q (contour_of c)) }
-{
-    let forward = orient(points, q, false, c);
-    let reverse = orient(points, q, true, c);
-    if forward.squared <= reverse.squared {
-        return forward;
+// A contour that waits, and the point that it is seen from. The points have its vertices.
+#[derive(Clone, Copy)]
+pub struct Waiting<'a> {
+    pub points: &'a [f64],
+    pub from: Point,
+    pub contour: Contour,
+    pub layer: u32,
+    ghost small: { contour.first.0 + contour.last < 65536 },
+    ghost held: { 2 * (contour.first.0 + contour.last) + 1 < length points.now },
+}
+
+impl Waiting<'_> {
+    // Forward where forward ≤ reverse.
+    pub fn nearer_sense(&self) -> Oriented
+        ensures contour { result.contour ≡ self.now.contour }
+        ensures nearer { (p : Plate) → p.points ≡ self.now.points.now → oriented_of result ≡ nearer_sense p self.now.from (contour_of self.now.contour) }
+    {
+        let forward = orient(self.points, self.from, false, self.contour);
+        let reverse = orient(self.points, self.from, true, self.contour);
+        if forward.squared <= reverse.squared {
+            return forward;
+        }
+        reverse
     }
-    reverse
+
+    // Whether it is surely no nearer than the choice so far, told without an exact sum. `false` says nothing.
+    fn is_passed_over(&self, best: Option<Choice>) -> bool
+        ensures { result ≡ true → (p : Plate) → p.points ≡ self.now.points.now →
+            leads nearer_end (choice_of best) (nearer_sense p self.now.from (contour_of self.now.contour)) ≡ choice_of best }
+    {
+        let Some(chosen) = best else {
+            return false;
+        };
+        let least = chosen.oriented.squared;
+        let first = self.contour.first.0;
+        if !is_beyond(self.from, point_at(self.points, Vertex(first)), least) {
+            return false;
+        }
+        let last = Vertex(first + self.contour.last);
+        is_beyond(self.from, point_at(self.points, last), least)
+    }
+
+    // Whether the choice surely stays as it is after this contour: it is of a higher layer, or of the choice's and passed over. `lowest` is the choice's
+    // layer, and where nothing is chosen yet the highest that takes part.
+    fn leaves(&self, best: Option<Choice>, lowest: u32) -> bool
+        ensures same { result ≡ true → (p : Plate) → p.points ≡ self.now.points.now → lowest ≡ lowest_of p (choice_of best) → self.now.layer ≡ layer_at p (contour_of self.now.contour) →
+            choice_of best ≡ leads_in (layer_of p) nearer_end (choice_of best) (nearer_sense p self.now.from (contour_of self.now.contour)) }
+        ensures low { result ≡ false → self.now.layer ≤ lowest }
+    {
+        if lowest < self.layer {
+            return true;
+        }
+        if self.layer < lowest {
+            return false;
+        }
+        self.is_passed_over(best)
+    }
 }
 
-// The choice after one more contour, at place i.
-fn nearer(best: Choice, i: u32, new: Oriented) -> Choice
-    ensures { (choice_of result ≡ leads nearer_end (choice_of best) (oriented_of new))
-        × ((words : List ℕ) → Stands words i best → i < length words → get_or words i 0 ≡ packed (contour_of new.contour) → Stands words (i + 1) result) }
+// The choice after one more contour.
+fn nearer(best: Option<Choice>, place: usize, oriented: Oriented) -> Option<Choice>
+    ensures leads { choice_of result ≡ leads nearer_end (choice_of best) (oriented_of oriented) }
+    ensures stands { (words : List ℕ) → Stands words place best → place < length words → get_or words place 0 ≡ packed (contour_of oriented.contour) → Stands words (place + 1) result }
 {
-    let Choice::At(_, old) = best else {
-        return Choice::At(i, new);
+    let Some(old) = best else {
+        return Some(Choice { place, oriented });
     };
-    if new.squared < old.squared {
-        return Choice::At(i, new);
+    if oriented.squared < old.oriented.squared {
+        return Some(Choice { place, oriented });
     }
     best
 }
 
-// Whether a contour is surely no nearer than the choice so far, told without an exact sum. `false` says nothing.
-fn is_passed_over(points: &[f64], q: Point, best: Choice, c: Contour) -> bool
-    requires { (c.first.0 + c.last < 65536) × (2 * (c.first.0 + c.last) + 1 < length points.now) }
-    ensures { result ≡ true → (p : Plate) → p.points ≡ points.now → leads nearer_end (choice_of best) (nearer_sense p q (contour_of c)) ≡ choice_of best }
+// The choice after a contour: one of a lower layer than the choice's takes its place, one of a higher layer waits.
+fn choice_after(best: Option<Choice>, place: usize, c: &Waiting<'_>, lowest: u32) -> Option<Choice>
+    ensures leads { (p : Plate) → p.points ≡ c.now.points.now → lowest ≡ lowest_of p (choice_of best) → c.now.layer ≡ layer_at p (contour_of c.now.contour) →
+        choice_of result ≡ leads_in (layer_of p) nearer_end (choice_of best) (nearer_sense p c.now.from (contour_of c.now.contour)) }
+    ensures stands { (words : List ℕ) → Stands words place best → place < length words → get_or words place 0 ≡ packed (contour_of c.now.contour) → Stands words (place + 1) result }
 {
-    let Choice::At(_, s) = best else {
-        return false;
-    };
-    let first = c.first.0;
-    if !is_beyond(q, point_at(points, Vertex(first)), s.squared) {
-        return false;
-    }
-    is_beyond(q, point_at(points, Vertex(first + c.last)), s.squared)
-}
-
-// Whether the choice surely stays as it is after the contour c: c is of a higher layer, or of the choice's and passed over. `lowest` is the choice's layer,
-// and where nothing is chosen yet the highest that takes part.
-fn stays(points: &[f64], q: Point, best: Choice, c: Contour, lowest: u32, layer: u32) -> bool
-    requires { (c.first.0 + c.last < 65536) × (2 * (c.first.0 + c.last) + 1 < length points.now) }
-    ensures { (result ≡ true → (p : Plate) → p.points ≡ points.now → lowest ≡ lowest_of p (choice_of best) → layer ≡ layer_at p (contour_of c) →
-        choice_of best ≡ leads_in (layer_of p) nearer_end (choice_of best) (nearer_sense p q (contour_of c)))
-        × (result ≡ false → layer ≤ lowest) }
-{
-    if lowest < layer {
-        return true;
-    }
-    if layer < lowest {
-        return false;
-    }
-    is_passed_over(points, q, best, c)
-}
-
-// The choice after the contour c, at place i: one of a lower layer than the choice's takes its place, one of a higher layer waits.
-fn choice_after(
-    points: &[f64],
-    q: Point,
-    best: Choice,
-    i: u32,
-    c: Contour,
-    lowest: u32,
-    layer: u32,
-) -> Choice
-    requires { (c.first.0 + c.last < 65536) × (2 * (c.first.0 + c.last) + 1 < length points.now) }
-    ensures { ((p : Plate) → p.points ≡ points.now → lowest ≡ lowest_of p (choice_of best) → layer ≡ layer_at p (contour_of c) →
-        choice_of result ≡ leads_in (layer_of p) nearer_end (choice_of best) (nearer_sense p q (contour_of c)))
-        × ((words : List ℕ) → Stands words i best → i < length words → get_or words i 0 ≡ packed (contour_of c) → Stands words (i + 1) result) }
-{
-    if stays(points, q, best, c, lowest, layer) {
+    if c.leaves(best, lowest) {
         return best;
     }
-    let s = nearer_sense(points, q, c);
-    if layer < lowest {
-        return Choice::At(i, s);
+    let oriented = c.nearer_sense();
+    if c.layer < lowest {
+        return Some(Choice { place, oriented });
     }
-    nearer(best, i, s)
-}
-
-fn lower(a: u32, b: u32) -> u32
-    ensures { result ≡ min a b }
-{
-    if a < b {
-        return a;
-    }
-    b
+    nearer(best, place, oriented)
 }
 
 // The waiting contour of the lowest layer that is nearest to q: strictly least distance wins, the lower contour on ties.
-pub fn nearest_waiting(
-    points: &[f64],
-    lengths: &[u32],
-    layers: &[u32],
-    waiting: &[u32],
-    q: Point,
-) -> Choice
-    requires { (length points.now ≡ 2 * sum lengths.now) × (length waiting.now ≤ 4096)
-        × ((cs : List handed.Contour) × (waiting.now ≡ map packed cs) × All (Placed lengths.now) cs) × (length layers.now ≡ length lengths.now) }
-    ensures { (Stands waiting.now (length waiting.now) result)
-        × ((p : Plate) (cs : List handed.Contour) → p.points ≡ points.now → p.layers ≡ layers.now → waiting.now ≡ map packed cs → All (Placed lengths.now) cs →
-        choice_of result ≡ foremost (layer_of p) nearer_end (map (nearer_sense p q) cs)) }
+pub fn nearest_waiting(checked: &CheckedInput<'_>, waiting: &[u32], q: Point) -> Option<Choice>
+    requires { (cs : List handed.Contour) × (waiting.now ≡ map packed cs) × All (Placed checked.now.input.lengths.now) cs }
+    ensures place { Stands waiting.now (length waiting.now) result }
+    ensures choice { (cs : List handed.Contour) → waiting.now ≡ map packed cs → All (Placed checked.now.input.lengths.now) cs → let p = plate_of checked.now.input in
+        choice_of result ≡ foremost (layer_of p) nearer_end (map (nearer_sense p q) cs) }
 {
-    let mut best = Choice::Nothing;
+    let input = checked.input;
+    let mut best = None;
     let mut lowest = HIGHEST_LAYER;
-    let mut i: usize = 0;
-    while i < waiting.len() {
-        let c = contour_at(lengths, waiting[i]);
-        let layer = layers[c.number as usize];
-        best = choice_after(points, q, best, i as u32, c, lowest, layer);
-        lowest = lower(lowest, layer);
-        i += 1;
+    for (i, &word) in waiting.iter().enumerate() {
+        let contour = contour_at(input.lengths, word);
+        let layer = input.layers[contour.number as usize];
+        let c = Waiting {
+            points: input.points,
+            from: q,
+            contour,
+            layer,
+        };
+        best = choice_after(best, i, &c, lowest);
+        lowest = lowest.min(layer);
     }
     best
 }

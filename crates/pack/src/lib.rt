@@ -50,7 +50,7 @@ pub fn round_pack(q: u64, sticky: u64, e: u64) -> f64
     requires { (2 ^ 53 ≤ q) × (q < 2 ^ 63) × (sticky ≤ 1) × (e ≤ 5000) }
     ensures { result ≡ rounded_from q sticky e }
 {
-    let digits = 64 - u64::leading_zeros(q) as u64;
+    let digits = 64 - q.leading_zeros() as u64;
     let k = ulp_exponent(digits, e);
     let cut = k + 1202 - e;
     if cut > 63 {

@@ -1,7 +1,7 @@
-// Contours packed in the work slice, one number each.
+// Contours packed in the work slice, one number each: the caller lends nothing but numbers.
 #![tactic(auto)]
 
-ghost use Rattle.std.specs.Prelude.{◌≡◌, map, ◌++◌, ◌∷◌, ℕ, ◌+◌, ◌-◌, ◌*◌, ◌≤◌, ◌<◌, length, get_or, take, drop};
+ghost use Rattle.std.specs.Prelude.{◌≡◌, map, ◌++◌, ◌∷◌, ℕ, ◌+◌, ◌-◌, ◌*◌, ◌≤◌, ◌<◌, length, get_or, take, drop, IfSome, IsNone};
 ghost use Rattle.rules.specs.Tools.{sum};
 ghost use Rattle.rules.specs.HandedOver.{contours_from, over};
 ghost use Rattle.packed_contours.specs.Packed.{packed, number_in, first_in};
@@ -9,34 +9,31 @@ ghost use Rattle.packed_contours.specs.Packed.{packed, number_in, first_in};
 use rules::Vertex;
 use start::Contour;
 
+// The fields of a packed number: the first vertex, and what the contour's number and whether it is reversed are counted in.
+pub const NUMBER_UNIT: u32 = 65536;
+
+pub const SENSE_UNIT: u32 = 268435456;
+
 // The contour of a packed number.
 pub fn contour_at(lengths: &[u32], word: u32) -> Contour
     requires { (number_in word < length lengths.now) × (0 < get_or lengths.now (number_in word) 0) }
     ensures { (result.number ≡ number_in word) × (result.first.0 ≡ first_in word) × (result.last + 1 ≡ get_or lengths.now (number_in word) 0) }
 {
-    let number = word % 268435456 / 65536;
+    let number = word % SENSE_UNIT / NUMBER_UNIT;
     let size = lengths[number as usize];
     Contour {
         number,
-        first: Vertex(word % 65536),
+        first: Vertex(word % NUMBER_UNIT),
         last: size - 1,
     }
 }
 
-// The place of a number, or the slice's length.
-pub fn place_of(words: &[u32], word: u32) -> usize
-    ensures { (result ≤ length words.now)
-        × (result < length words.now → get_or words.now result 0 ≡ word)
-        × ((j : ℕ) → j < result → get_or words.now j 0 ≡ word → ⊥) }
+// The first place of a number.
+pub fn place_of(words: &[u32], word: u32) -> Option<usize>
+    ensures found { IfSome result (λ i. (i < length words.now) × (get_or words.now i 0 ≡ word) × ((j : ℕ) → j < i → get_or words.now j 0 ≡ word → ⊥)) }
+    ensures missing { IsNone result → (j : ℕ) → j < length words.now → get_or words.now j 0 ≡ word → ⊥ }
 {
-    let mut i: usize = 0;
-    while i < words.len() {
-        if words[i] == word {
-            return i;
-        }
-        i += 1;
-    }
-    i
+    words.iter().position(|&w| w == word)
 }
 
 // Writes the contours that are not empty, packed, to the start of the work slice, and answers how many they are.
@@ -48,15 +45,12 @@ pub fn list_contours(lengths: &[u32], work: &mut [u32]) -> usize
 {
     let mut n: usize = 0;
     let mut first: u32 = 0;
-    let mut i: usize = 0;
-    while i < lengths.len() {
-        let size = lengths[i];
+    for (i, &size) in lengths.iter().enumerate() {
         if size != 0 {
-            work[n] = (i as u32) * 65536 + first;
+            work[n] = (i as u32) * NUMBER_UNIT + first;
             n += 1;
         }
         first += size;
-        i += 1;
     }
     n
 }
@@ -66,10 +60,6 @@ pub fn move_down(work: &mut [u32], s: usize, k: usize, word: u32)
     requires { (s ≤ k) × (k < length work.old) }
     ensures { work.new ≡ take s work.old ++ (word ∷ (take (k - s) (drop s work.old) ++ drop (k + 1) work.old)) }
 {
-    let mut i = k;
-    while s < i {
-        work[i] = work[i - 1];
-        i -= 1;
-    }
+    work.copy_within(s..k, s + 1);
     work[s] = word;
 }

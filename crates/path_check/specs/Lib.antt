@@ -1,4 +1,5 @@
 pub mod Labels
+pub mod Filling
 pub mod Ending
 pub mod Failing
 pub mod Outcome

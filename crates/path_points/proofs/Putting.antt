@@ -23,7 +23,7 @@ module _ (g : SpatialGrid) (room count : ℕ) (path : List Float) (ms work : Lis
     abbrev put_marks : List ℕ
     put_marks = set (set ms (2 * count) kind) (2 * count + 1) reference
 
-    inserted_length : length (inserted g work count p) ≡ length work
+    pub inserted_length : length (inserted g work count p) ≡ length work
     unfolding inserted
     inserted_length = simp length-set refl
 

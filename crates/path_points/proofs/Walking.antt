@@ -1,21 +1,22 @@
 -- The slices while the path is walked back, place by place. Assumes nothing.
-use mathlib.Core.Path.{◌≡◌, sym, ap, ◌∙◌}
+use mathlib.Core.Path.{◌≡◌, refl, sym, ap, ◌∙◌}
 use mathlib.Core.List.{List, [], ◌∷◌, ◌++◌, map, append_assoc}
-use Prim.Native.Nat.{ℕ, zero, suc, ◌+◌, ◌-◌, ◌≤◌, ◌<◌}
-use native.Mathlib.Nat.{add-zero}
+use Prim.Native.Nat.{ℕ, suc, ◌+◌, ◌-◌, ◌≤◌, ◌<◌}
 use native.Mathlib.Omega.{arith}
 use lib.Ieee.{Float}
 use lib.ListN.{length, length-append}
+use Rattle.std.specs.Prelude.{Result, Ok, Err, IsErr}
 use Rattle.rules.specs.Tools.{down_to}
 use Rattle.rules.specs.HandedOver.{at}
 use Rattle.rules.specs.RetraceAndMarks.{Step, back_step, vertex_of, walk_to, walk_back}
 use Rattle.rules.specs.declared.Point.{Point}
-use Rattle.rules.specs.declared.SpatialGrid.{SpatialGrid}
 use Rattle.path.specs.Pairs.{vertex_old}
-use Rattle.layout.specs.Parts.{KeptFrom}
-use Rattle.path_points.specs.Wrote.{Wrote, wrote_full, wrote_at}
-use Rattle.path_points.specs.Pen.{Pen, Grows}
-use Rattle.path_points.specs.Drawing.{Drawing, drawing_on, down_snoc}
+use Rattle.path_points.specs.Wrote.{wrote_length, wrote_at}
+use Rattle.path_points.specs.Writing.{SameWriter, Written, Adds}
+use Rattle.path_points.specs.Drawing.{down_split, down_snoc}
+use Rattle.path_points.specs.Writers.{same_then, written_then, adds_full}
+use Rattle.path_points.specs.declared.Full.{Full}
+use Rattle.path_points.specs.declared.PathWriter.{PathWriter}
 
 -- the path with the walk from its end, place count - 1, down to a place
 abbrev pub walked : ℕ → ℕ → List Step → List Step
@@ -31,13 +32,6 @@ walked_more count place high l h ss =
     ∙ sym (append_assoc ss (map (walk_to ss) (down_to high (count - 1 - high))) (walk_to ss place ∷ [])))
 
 -- a walk in two parts
-down_split : (f : ℕ → Step) (a m n : ℕ) → map f (down_to a (m + n)) ≡ map f (down_to (a + m) n) ++ map f (down_to a m)
-down_split f a m zero = rw (add-zero m)
-down_split f a m (suc n) =
-    let e : m + suc n ≡ suc (m + n) = omega arith in
-    let k : a + (m + n) ≡ a + m + n = omega arith in
-    rw (e, k) (ap (λ (ss : List Step). f (a + m + n) ∷ ss) (down_split f a m n))
-
 walked_split : (h place : ℕ) (ss : List Step) → h ≤ place → place < length ss →
     ss ++ walk_back ss h ≡ walked (length ss) place ss ++ map (walk_to ss) (down_to h (place - h))
 unfolding walk_back
@@ -52,65 +46,69 @@ walked_split h place ss l m =
 
 -- ---- the loop
 
-pub record Walking (g : SpatialGrid) (room count : ℕ) (path : List Float) (ms work : List ℕ) (h place k : ℕ) (path' : List Float) (ms' work' : List ℕ) : Type 0 where
+pub record Walking (w : PathWriter) (h place : ℕ) (w' : PathWriter) : Type 0 where
   pub low : h ≤ place
-  pub high : place < count
-  pub fits : count ≤ room
-  pub behind : count ≤ k
-  pub drawing : (xs : List Float) → Drawing xs g room count path ms work k path' ms' work' (walked count place)
+  pub high : place < w.count
+  pub fits : w.count ≤ w.room
+  pub same : SameWriter w w'
+  pub written : Written w w' (Ok tt)
+  pub adds : (xs : List Float) → Adds xs w w' (Ok tt) (walked w.count place)
 
-module _ (g : SpatialGrid) (room count : ℕ) (path : List Float) (ms work : List ℕ) (h : ℕ) where
-  -- how many steps there are while they fit
-  steps_count : (xs : List Float) (steps : List Step) (was : List Float) (marked : List ℕ) → Wrote xs steps room count was path marked ms → count ≤ room → length steps ≡ count
-  steps_count xs steps was marked w l = omega (arith, w.counted)
+module _ (w : PathWriter) (h place : ℕ) (w' : PathWriter) (d : Walking w h place w') where
+  -- the point at place j, read and put
+  module _ (j : ℕ) (l : suc j ≡ place) (p : Point) (read : at w'.path.now j ≡ p) (w'' : PathWriter) (r : Result (Unit {0}) Full)
+      (put : (xs : List Float) (v : ℕ) → at xs v ≡ p → Adds xs w' w'' r (λ ss. ss ++ record { vertex = v; kind = 2; reference = j } ∷ [])) where
+    pub walked_on : (xs : List Float) → Adds xs w w'' r (walked w.count j)
+    unfolding walk_to back_step
+    walked_on xs steps was marked v =
+        let n = wrote_length xs steps _ _ was _ marked _ v d.fits in
+        let hi = d.high in
+        let fi = d.fits in
+        let mo = d.written.more in
+        let ro = d.same.1 in
+        let all = walked w.count place steps in
+        let u = d.adds xs steps was marked v in
+        let far : length all ≡ length steps + length (map (walk_to steps) (down_to place (w.count - 1 - place))) = length-append steps _ in
+        let e = wrote_at xs all w.room w'.count was w'.path.now marked w'.marks.now u j (omega arith) (omega arith) in
+        let old = vertex_old steps (map (walk_to steps) (down_to place (w.count - 1 - place))) j (omega arith) in
+        let put' = rw ro at (put xs (vertex_of steps j) (sym (ap (at xs) old) ∙ sym e ∙ read)) in
+        rw (walked_more w.count j place l d.high steps) (put' all was marked u)
 
-  module _ (place k : ℕ) (path' : List Float) (ms' work' : List ℕ) (w : Walking g room count path ms work h place k path' ms' work') where
-    abbrev step : List Step → ℕ → Step
-    step ss j = record { vertex = vertex_of ss j; kind = 2; reference = j }
+    module _ (same : SameWriter w' w'') (more : Written w' w'' r) where
+      pub walking_same : SameWriter w w''
+      walking_same = same_then w w' w'' r d.same same
 
-    -- the point at place j, read and put
-    module _ (j : ℕ) (l : suc j ≡ place) (below : h ≤ j) (p : Point) (read : at path' j ≡ p) (k'' : ℕ) (path'' : List Float) (ms'' work'' : List ℕ)
-        (put : (xs : List Float) (v : ℕ) → at xs v ≡ p → Grows xs room k k'' path' path'' ms' ms'' (λ ss. ss ++ record { vertex = v; kind = 2; reference = j } ∷ [])) where
-      grown : (xs : List Float) → Grows xs room count k'' path path'' ms ms'' (walked count j)
-      unfolding walk_to back_step
-      grown xs steps was marked v =
-          let n = steps_count xs steps was marked v w.fits in
-          let hi = w.high in
-          let fi = w.fits in
-          let all = walked count place steps in
-          let u = (w.drawing xs).grows steps was marked v in
-          let far : length all ≡ length steps + length (map (walk_to steps) (down_to place (count - 1 - place))) = length-append steps _ in
-          let e = wrote_at xs all room k was path' marked ms' u j (omega arith) (omega arith) in
-          let old = vertex_old steps (map (walk_to steps) (down_to place (count - 1 - place))) j (omega arith) in
-          rw (walked_more count j place l w.high steps)
-          (put xs (vertex_of steps j) (sym (ap (at xs) old) ∙ sym e ∙ read) all was marked u)
+      pub walking_written : Written w w'' r
+      walking_written = written_then w w' w'' r d.same d.written more
 
-      pub walking_on : Pen g room k'' path'' ms'' work'' → KeptFrom (2916 + room) work' work'' → length path'' ≡ length path' → length ms'' ≡ length ms' →
-          length work'' ≡ length work' → k ≤ k'' → Walking g room count path ms work h j k'' path'' ms'' work''
-      walking_on pen kept lp lm lw m =
-          let hi = w.high in
-          let be = w.behind in
-          record {
-            low = below;
-            high = omega arith;
-            fits = w.fits;
-            behind = omega arith;
-            drawing = λ xs.
-                drawing_on xs g room count path ms work k path' ms' work' (walked count place) (w.drawing xs) k'' path'' ms'' work'' pen kept lp lm lw
-                (walked count j) (grown xs);
-          }
+-- one place more
+pub walking_on : (w : PathWriter) (h place : ℕ) (w' : PathWriter) (d : Walking w h place w') (j : ℕ) → suc j ≡ place → h ≤ j →
+    (p : Point) → at w'.path.now j ≡ p → (w'' : PathWriter) →
+    ((xs : List Float) (v : ℕ) → at xs v ≡ p → Adds xs w' w'' (Ok tt) (λ ss. ss ++ record { vertex = v; kind = 2; reference = j } ∷ [])) →
+    SameWriter w' w'' → Written w' w'' (Ok tt) → Walking w h j w''
+walking_on w h place w' d j l below p read w'' put same more =
+    let hi = d.high in
+    record {
+      low = below;
+      high = omega arith;
+      fits = d.fits;
+      same = walking_same w h place w' d j l p read w'' (Ok tt) put same more;
+      written = walking_written w h place w' d j l p read w'' (Ok tt) put same more;
+      adds = walked_on w h place w' d j l p read w'' (Ok tt) put;
+    }
 
-    -- where the path is full, and where the place is reached
-    pub walking_full : room < k → (xs : List Float) → Grows xs room count k path path' ms ms' (λ ss. ss ++ walk_back ss h)
-    walking_full m xs steps was marked v =
-        let n = steps_count xs steps was marked v w.fits in
-        let hi = w.high in
-        rw (walked_split h place steps w.low (omega arith), n)
-        (wrote_full xs (walked count place steps) room k was path' marked ms' ((w.drawing xs).grows steps was marked v) _ m)
+-- where the path is full at place j, and where place h is reached
+pub walking_full : (w w' : PathWriter) (e : Full) (h j : ℕ) → h ≤ j → j < w.count → w.count ≤ w.room → (xs : List Float) →
+    Adds xs w w' (Err e) (walked w.count j) → (r : Result (Unit {0}) Full) → IsErr r → Adds xs w w' r (λ ss. ss ++ walk_back ss h)
+walking_full w w' e h j l m f xs a r is steps was marked v =
+    let n = wrote_length xs steps _ _ was _ marked _ v f in
+    let whole = adds_full xs w w' e (walked w.count j) (λ ss. walked w.count j ss ++ map (walk_to ss) (down_to h (j - h))) (λ ss. map (walk_to ss) (down_to h (j - h))) a (λ ss. refl) r is in
+    rw (walked_split h j steps l (omega arith), n) (whole steps was marked v)
 
-    pub walking_done : place ≤ h → (xs : List Float) → Grows xs room count k path path' ms ms' (λ ss. ss ++ walk_back ss h)
-    unfolding walk_back
-    walking_done m xs steps was marked v =
-        let n = steps_count xs steps was marked v w.fits in
-        let e : h ≡ place = omega (arith, w.low) in
-        rw (n, e) ((w.drawing xs).grows steps was marked v)
+pub walking_done : (w : PathWriter) (h place : ℕ) (w' : PathWriter) → Walking w h place w' → place ≤ h → (xs : List Float) →
+    Adds xs w w' (Ok tt) (λ ss. ss ++ walk_back ss h)
+unfolding walk_back
+walking_done w h place w' d m xs steps was marked v =
+    let n = wrote_length xs steps _ _ was _ marked _ v d.fits in
+    let e : h ≡ place = omega (arith, d.low) in
+    rw (n, e) (d.adds xs steps was marked v)

@@ -1,6 +1,6 @@
 -- The slices while path points are written one by one. Assumes nothing.
 use Rattle.std.specs.Prelude.{◌≡◌, refl, List, [], ◌∷◌, ◌++◌, map, ℕ, zero, suc, ◌+◌, Float, length}
-use Rattle.std.proofs.Common.{ap, ◌∙◌, add-zero, arith}
+use Rattle.std.proofs.Common.{ap, ◌∙◌, add-zero, zero-add, arith}
 use Rattle.rules.specs.Tools.{up_from, down_to}
 use Rattle.rules.specs.RetraceAndMarks.{Step}
 use Rattle.rules.specs.declared.SpatialGrid.{SpatialGrid}
@@ -51,14 +51,25 @@ module _ (xs : List Float) (g : SpatialGrid) (room count : ℕ) (path : List Flo
     drawing_then p c lp lm lw h f' r e =
         drawing_on p c lp lm lw f' (λ steps was marked w. rw (e steps) (r (f steps) was marked (d.grows steps was marked w)))
 
--- ---- runs grow at their end
+-- ---- runs in two parts
 
+pub up_split : (f : ℕ → Step) (a m n : ℕ) → map f (up_from a (m + n)) ≡ map f (up_from a m) ++ map f (up_from (a + m) n)
+up_split f a zero n = rw (zero-add, add-zero) refl
+up_split f a (suc m) n =
+    let e : suc m + n ≡ suc (m + n) = omega arith in
+    let k : a + suc m ≡ suc a + m = omega arith in
+    rw (e, k) (ap (λ (ss : List Step). f a ∷ ss) (up_split f (suc a) m n))
+
+pub down_split : (f : ℕ → Step) (a m n : ℕ) → map f (down_to a (m + n)) ≡ map f (down_to (a + m) n) ++ map f (down_to a m)
+down_split f a m zero = rw (add-zero m)
+down_split f a m (suc n) =
+    let e : m + suc n ≡ suc (m + n) = omega arith in
+    let k : a + (m + n) ≡ a + m + n = omega arith in
+    rw (e, k) (ap (λ (ss : List Step). f (a + m + n) ∷ ss) (down_split f a m n))
+
+-- runs grow at their end
 pub up_snoc : (f : ℕ → Step) (a n : ℕ) → map f (up_from a (n + 1)) ≡ map f (up_from a n) ++ f (a + n) ∷ []
-up_snoc f a zero = rw (add-zero a)
-up_snoc f a (suc n) =
-    let e : suc n + 1 ≡ suc (n + 1) = omega arith in
-    let k : suc a + n ≡ a + suc n = omega arith in
-    rw e (ap (λ (ss : List Step). f a ∷ ss) (up_snoc f (suc a) n ∙ ap (λ (v : ℕ). map f (up_from (suc a) n) ++ f v ∷ []) k))
+up_snoc f a n = up_split f a n 1
 
 pub down_snoc : (f : ℕ → Step) (a n : ℕ) → map f (down_to a (suc n)) ≡ map f (down_to (suc a) n) ++ f a ∷ []
 down_snoc f a zero = rw (add-zero a)

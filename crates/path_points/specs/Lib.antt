@@ -1,3 +1,5 @@
 pub mod Wrote
 pub mod Pen
+pub mod Writing
 pub mod Drawing
+pub mod Writers

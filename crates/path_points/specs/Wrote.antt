@@ -133,6 +133,11 @@ module _ (xs : List Float) (steps : List Step) (room count : ℕ) (was path : Li
 
 -- ---- reading
 
+-- how many steps there are while they fit
+pub wrote_length : (xs : List Float) (steps : List Step) (room count : ℕ) (was path : List Float) (marked ms : List ℕ) →
+    Wrote xs steps room count was path marked ms → count ≤ room → length steps ≡ count
+wrote_length xs steps room count was path marked ms w l = omega (arith, w.counted)
+
 -- place j holds the coordinates of the step there
 pub wrote_at : (xs : List Float) (steps : List Step) (room count : ℕ) (was path : List Float) (marked ms : List ℕ) →
     Wrote xs steps room count was path marked ms → (j : ℕ) → j < length steps → j < room → at path j ≡ at xs (vertex_of steps j)

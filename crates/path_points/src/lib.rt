@@ -1,92 +1,89 @@
 // Path points with their marks: written to the lent slices and put on the chains of their cells, as many as there is room for.
-// A count is how many path points there are, or room + 1 where they are more than there is room for; nothing is written then.
 #![tactic(auto)]
 
 ghost use Rattle.std.specs.Prelude.{◌≡◌, List, [], ◌∷◌, ◌++◌, ℕ, ◌+◌, ◌≤◌, ◌<◌, Float};
 ghost use Rattle.rules.specs.HandedOver.{at};
+ghost use Rattle.rules.specs.Marks.{kind_of, reference_of};
 ghost use Rattle.rules.specs.RetraceAndMarks.{walk_back};
 ghost use Rattle.path.specs.FiniteDistances.{OnPlate};
-ghost use Rattle.layout.specs.Parts.{KeptFrom};
-ghost use Rattle.path_points.specs.Pen.{Pen, Grows};
+ghost use Rattle.path_points.specs.Writing.{reached, CanWrite, SameWriter, Written, Adds};
 
-use history::insert;
-use rules::{BACK_STEP, PathPlace, Point, SpatialGrid};
+use grid::Grid;
+use history::{PathSoFar, insert};
+use rules::{Mark, PathPlace, Point, path_point};
 
-// What a path point's mark says.
-#[derive(Clone, Copy)]
-pub struct Mark {
-    pub kind: u32,
-    pub reference: u32,
+// There are more path points than there is room for.
+#[derive(Clone, Copy, PartialEq, Eq)]
+pub struct Full;
+
+// The lent slices, of which the first `count` points are the path so far. That they are (CanWrite) is no ghost field: a writer is made before its
+// chains are cleared.
+#[derive(Drop)]
+pub struct PathWriter<'a> {
+    pub grid: Grid,
+    pub room: u32,
+    pub path: &'a mut [f64],
+    pub marks: &'a mut [u32],
+    pub work: &'a mut [u32],
+    pub count: u32,
 }
 
-// One more path point.
-pub fn put(
-    g: SpatialGrid,
-    room: u32,
-    path: &mut [f64],
-    marks: &mut [u32],
-    work: &mut [u32],
-    count: u32,
-    p: Point,
-    mark: Mark,
-) -> u32
-    requires { (Pen g room count path.old marks.old work.old) × OnPlate p.x × OnPlate p.y }
-    ensures { (Pen g room result path.new marks.new work.new)
-        × (KeptFrom (2916 + room) work.old work.new)
-        × ((xs : List Float) (v : ℕ) → at xs v ≡ p →
-        Grows xs room count result path.old path.new marks.old marks.new
-        (λ steps. steps ++ record { vertex = v; kind = mark.kind; reference = mark.reference } ∷ []))
-        × (count ≤ result) × (count ≤ room → count < result) }
-{
-    if room <= count {
-        return room + 1;
-    }
-    let i = count as usize;
-    path[2 * i] = p.x;
-    path[2 * i + 1] = p.y;
-    marks[2 * i] = mark.kind;
-    marks[2 * i + 1] = mark.reference;
-    insert(g, work, PathPlace(count), p);
-    count + 1
-}
-
-// Back along the path to place h. Where the path is full, nothing more is walked.
-pub fn walk_back(
-    g: SpatialGrid,
-    room: u32,
-    path: &mut [f64],
-    marks: &mut [u32],
-    work: &mut [u32],
-    count: u32,
-    h: PathPlace,
-) -> u32
-    requires { (Pen g room count path.old marks.old work.old) × (count ≤ room → h.0 < count) }
-    ensures { (Pen g room result path.new marks.new work.new)
-        × (KeptFrom (2916 + room) work.old work.new)
-        × ((xs : List Float) →
-        Grows xs room count result path.old path.new marks.old marks.new
-        (λ steps. steps ++ walk_back steps h.0)) }
-{
-    if room < count {
-        return count;
-    }
-    let mut place = count - 1;
-    let mut k = count;
-    while h.0 < place {
-        if room < k {
-            return k;
+impl PathWriter<'_> {
+    pub fn so_far(&self) -> PathSoFar<'_>
+        ensures { (result.points.now ≡ self.now.path.now) × (result.count ≡ self.now.count) }
+    {
+        PathSoFar {
+            points: &*self.path,
+            count: self.count,
         }
-        place -= 1;
-        let i = place as usize;
-        let p = Point {
-            x: path[2 * i],
-            y: path[2 * i + 1],
-        };
-        let mark = Mark {
-            kind: BACK_STEP,
-            reference: place,
-        };
-        k = put(g, room, &mut *path, &mut *marks, &mut *work, k, p, mark);
     }
-    k
+
+    pub fn work(&self) -> &[u32]
+        ensures { result.now ≡ self.now.work.now }
+    {
+        &*self.work
+    }
+
+    // One more path point.
+    pub fn put(&mut self, p: Point, mark: Mark) -> Result<(), Full>
+        requires writable { CanWrite self.old }
+        requires on_plate { OnPlate p.x × OnPlate p.y }
+        ensures same { SameWriter self.old self.new }
+        ensures written { Written self.old self.new result }
+        ensures one_more { self.old.count ≤ self.old.room → self.old.count < reached self.old.room self.new.count result }
+        ensures adds { (xs : List Float) (v : ℕ) → at xs v ≡ p →
+            Adds xs self.old self.new result
+            (λ steps. steps ++ record { vertex = v; kind = kind_of mark; reference = reference_of mark } ∷ []) }
+    {
+        if self.room <= self.count {
+            return Err(Full);
+        }
+        let i = self.count as usize;
+        self.path[2 * i] = p.x;
+        self.path[2 * i + 1] = p.y;
+        self.marks[2 * i] = mark.kind();
+        self.marks[2 * i + 1] = mark.reference();
+        insert(self.grid, &mut *self.work, PathPlace(self.count), p);
+        self.count += 1;
+        Ok(())
+    }
+
+    // Back along the path to place h.
+    pub fn walk_back(&mut self, h: PathPlace) -> Result<(), Full>
+        requires writable { CanWrite self.old }
+        requires behind { self.old.count ≤ self.old.room → h.0 < self.old.count }
+        ensures same { SameWriter self.old self.new }
+        ensures written { Written self.old self.new result }
+        ensures adds { (xs : List Float) → Adds xs self.old self.new result (λ steps. steps ++ walk_back steps h.0) }
+    {
+        if self.room < self.count {
+            return Err(Full);
+        }
+        for place in (h.0..self.count - 1).rev() {
+            let place = PathPlace(place);
+            let p = path_point(self.so_far().points, place);
+            self.put(p, Mark::BackStep(place))?;
+        }
+        Ok(())
+    }
 }

@@ -2,7 +2,7 @@
 use mathlib.Core.Path.{◌≡◌, refl, sym}
 use mathlib.Core.Bool.{Bool, true, false, ◌||◌}
 use mathlib.Core.List.{List}
-use Prim.Native.Nat.{ℕ, zero, suc, ◌-◌, ◌<◌}
+use Prim.Native.Nat.{ℕ, zero, suc, ◌-◌, ◌≤◌, ◌<◌}
 use native.Mathlib.Omega.{arith}
 use lib.Ieee.{Float}
 use borrow.Author.Tests.{eq-eqb, ne_eqb}
@@ -14,13 +14,13 @@ use Rattle.statement.specs.PathCheck.{lands_fresh, cuts_fresh, reverses, keeps_a
 use Rattle.rules.specs.declared.Point.{Point}
 
 -- a landing is neither a cut nor a back-step
-landing_above : (a b : Point) → 2 < landing_kind a b
+landing_above : (a b : Point) → (2 < landing_kind a b) × (landing_kind a b ≤ 4)
 unfolding landing_kind pick
 landing_above a b = go (coincide a b)
   where
-    go : (t : Bool) → 2 < pick t touch_kind jump_kind
-    go true = omega arith
-    go false = omega arith
+    go : (t : Bool) → (2 < pick t touch_kind jump_kind) × (pick t touch_kind jump_kind ≤ 4)
+    go true = (omega arith, omega arith)
+    go false = (omega arith, omega arith)
 
 or_none : (b : Bool) → (b || false) ≡ b
 or_none true = refl
@@ -31,16 +31,6 @@ or_neither true = refl
 or_neither false = refl
 
 module _ (cs : List Contour) (xs path : List Float) (ms : List ℕ) where
-  pub keeps_start : (i : ℕ) → i ≡ 0 → kind_at ms i ≡ start_kind → lands_fresh cs xs path ms i (reference_at ms i) ≡ keeps_rules cs xs path ms i
-  unfolding keeps_rules
-  keeps_start zero e k = rw (eq-eqb (kind_at ms 0) start_kind k) refl
-  keeps_start (suc i) e k = absurd (omega arith)
-
-  pub no_start : (i : ℕ) → i ≡ 0 → (kind_at ms i ≡ start_kind → ⊥) → keeps_rules cs xs path ms i ≡ false
-  unfolding keeps_rules
-  no_start zero e k = rw (ne_eqb (kind_at ms 0) start_kind k) refl
-  no_start (suc i) e k = absurd (omega arith)
-
   module _ (k kind r : ℕ) where
     abbrev landing : ℕ
     landing = landing_kind (at path k) (at path (suc k))
@@ -78,24 +68,43 @@ module _ (cs : List Contour) (xs path : List Float) (ms : List ℕ) where
   before : (k : ℕ) → suc k - 1 ≡ k
   before k = omega arith
 
-  pub keeps_cut : (i : ℕ) → (i ≡ 0 → ⊥) → kind_at ms i ≡ cut_kind → cuts_fresh cs xs path ms (i - 1) (reference_at ms i) ≡ keeps_rules cs xs path ms i
+  -- by the kind, and by the reference r
+  pub keeps_start : (i r : ℕ) → i ≡ 0 → kind_at ms i ≡ start_kind → r ≡ reference_at ms i → lands_fresh cs xs path ms i r ≡ keeps_rules cs xs path ms i
   unfolding keeps_rules
-  keeps_cut zero n e = absurd (n refl)
-  keeps_cut (suc k) n e = rw (before k) (sym (by_cut k (kind_at ms (suc k)) (reference_at ms (suc k)) e))
+  keeps_start zero r z k e = rw (e, eq-eqb (kind_at ms 0) start_kind k) refl
+  keeps_start (suc i) r z k e = absurd (omega arith)
 
-  pub keeps_back : (i : ℕ) → (i ≡ 0 → ⊥) → kind_at ms i ≡ back_step_kind → reverses path (i - 1) (reference_at ms i) ≡ keeps_rules cs xs path ms i
+  pub no_start : (i : ℕ) → i ≡ 0 → (kind_at ms i ≡ start_kind → ⊥) → false ≡ keeps_rules cs xs path ms i
   unfolding keeps_rules
-  keeps_back zero n e = absurd (n refl)
-  keeps_back (suc k) n e = rw (before k) (sym (by_back k (kind_at ms (suc k)) (reference_at ms (suc k)) e))
+  no_start zero z k = rw (ne_eqb (kind_at ms 0) start_kind k) refl
+  no_start (suc i) z k = absurd (omega arith)
 
-  pub keeps_landing : (i : ℕ) → (i ≡ 0 → ⊥) → (kind_at ms i ≡ cut_kind → ⊥) → (kind_at ms i ≡ back_step_kind → ⊥) →
-      kind_at ms i ≡ landing_kind (at path (i - 1)) (at path i) → lands_fresh cs xs path ms i (reference_at ms i) ≡ keeps_rules cs xs path ms i
+  pub keeps_cut : (i r : ℕ) → (i ≡ 0 → ⊥) → kind_at ms i ≡ cut_kind → r ≡ reference_at ms i → cuts_fresh cs xs path ms (i - 1) r ≡ keeps_rules cs xs path ms i
   unfolding keeps_rules
-  keeps_landing zero n c b e = absurd (n refl)
-  keeps_landing (suc k) n c b e = sym (by_landing k (kind_at ms (suc k)) (reference_at ms (suc k)) c b (rw (before k) at e))
+  keeps_cut zero r n k e = absurd (n refl)
+  keeps_cut (suc i) r n k e = rw (before i, e) (sym (by_cut i (kind_at ms (suc i)) (reference_at ms (suc i)) k))
 
-  pub no_kind : (i : ℕ) → (i ≡ 0 → ⊥) → (kind_at ms i ≡ cut_kind → ⊥) → (kind_at ms i ≡ back_step_kind → ⊥) →
-      (kind_at ms i ≡ landing_kind (at path (i - 1)) (at path i) → ⊥) → keeps_rules cs xs path ms i ≡ false
+  pub keeps_back : (i r : ℕ) → (i ≡ 0 → ⊥) → kind_at ms i ≡ back_step_kind → r ≡ reference_at ms i → reverses path (i - 1) r ≡ keeps_rules cs xs path ms i
   unfolding keeps_rules
-  no_kind zero n c b e = absurd (n refl)
-  no_kind (suc k) n c b e = by_none k (kind_at ms (suc k)) (reference_at ms (suc k)) c b (λ x. e (rw (before k) x))
+  keeps_back zero r n k e = absurd (n refl)
+  keeps_back (suc i) r n k e = rw (before i, e) (sym (by_back i (kind_at ms (suc i)) (reference_at ms (suc i)) k))
+
+  pub keeps_landing : (i r : ℕ) → (i ≡ 0 → ⊥) → (kind_at ms i ≡ cut_kind → ⊥) → (kind_at ms i ≡ back_step_kind → ⊥) →
+      kind_at ms i ≡ landing_kind (at path (i - 1)) (at path i) → r ≡ reference_at ms i → lands_fresh cs xs path ms i r ≡ keeps_rules cs xs path ms i
+  unfolding keeps_rules
+  keeps_landing zero r n c b k e = absurd (n refl)
+  keeps_landing (suc i) r n c b k e = rw e (sym (by_landing i (kind_at ms (suc i)) (reference_at ms (suc i)) c b (rw (before i) at k)))
+
+  pub no_landing : (i : ℕ) → (i ≡ 0 → ⊥) → (kind_at ms i ≡ cut_kind → ⊥) → (kind_at ms i ≡ back_step_kind → ⊥) →
+      (kind_at ms i ≡ landing_kind (at path (i - 1)) (at path i) → ⊥) → false ≡ keeps_rules cs xs path ms i
+  unfolding keeps_rules
+  no_landing zero n c b l = absurd (n refl)
+  no_landing (suc i) n c b l = sym (by_none i (kind_at ms (suc i)) (reference_at ms (suc i)) c b (λ x. l (rw (before i) x)))
+
+  -- there is no such kind
+  pub no_kind : (i : ℕ) → (kind_at ms i ≤ 4 → ⊥) → false ≡ keeps_rules cs xs path ms i
+  unfolding keeps_rules
+  no_kind zero n = no_start 0 refl (λ x. n (omega (arith, x)))
+  no_kind (suc i) n =
+      sym (by_none i (kind_at ms (suc i)) (reference_at ms (suc i)) (λ x. n (omega (arith, x))) (λ x. n (omega (arith, x)))
+      (λ x. n (omega (arith, x, landing_above (at path i) (at path (suc i))))))

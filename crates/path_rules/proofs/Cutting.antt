@@ -1,7 +1,7 @@
--- What the words of the work slice say of a cut, and when a path goes and reverses. Assumes nothing.
+-- What the words of the work slice say of a cut. Assumes nothing.
 use mathlib.Core.Path.{◌≡◌, sym, ◌∙◌, subst}
 use mathlib.Core.Logic.{◌⊎◌}
-use mathlib.Core.Bool.{Bool, true, false, ◌&&◌, ◌||◌}
+use mathlib.Core.Bool.{Bool, true, false, ◌||◌}
 use mathlib.Core.List.{List}
 use Prim.Native.Nat.{ℕ, suc, ◌+◌, ◌/◌, ◌%◌, ◌≤◌, ◌<◌}
 use native.Mathlib.Omega.{arith}
@@ -9,23 +9,14 @@ use lib.Dec.{not_T}
 use lib.Ieee.{Float}
 use lib.Ieee.Bits.{is_false}
 use lib.ListN.{get_or}
-use borrow.Author.Tests.{lt-ltb, le-ltb}
 use Rattle.rules.specs.HandedOver.{Contour, at}
-use Rattle.rules.specs.Bits.{same_point}
 use Rattle.statement.specs.PathStatement.{Of}
-use Rattle.statement.specs.PathCheck.{goes, cuts_fresh, reverses}
-use Rattle.rules.specs.declared.Point.{Point}
+use Rattle.statement.specs.PathCheck.{goes, cuts_fresh}
 use Rattle.path.specs.Contours.{one_number}
 use Rattle.division.specs.Says.{says_by, says_or, says_one}
 use Rattle.division.specs.Rules.{Goes, CutsFresh, says_cuts, says_goes}
 use Rattle.path_rules.specs.Tallied.{Tallied}
 use Rattle.path_rules.specs.Words.{number_of, word_of}
-
-and_rest : (s t : Bool) → s ≡ true → s && t ≡ t
-and_rest s t e = rw e
-
-and_not : (s t : Bool) → s ≡ false → s && t ≡ false
-and_not s t e = rw e
 
 or_first : (s t : Bool) → s ≡ true → s || t ≡ true
 or_first s t e = rw e
@@ -35,25 +26,6 @@ or_rest s t e = rw e
 
 add_one : (n : ℕ) → n + 1 ≡ suc n
 add_one n = omega arith
-
-module _ (path : List Float) (k : ℕ) where
-  -- the first point is the one meant, and it is not
-  pub goes_rest : (a b : Point) → same_point (at path k) a ≡ true → same_point (at path (k + 1)) b ≡ goes path k a b
-  unfolding goes
-  goes_rest a b h = rw (add_one k) (sym (and_rest _ _ h))
-
-  pub goes_not : (a b : Point) → same_point (at path k) a ≡ false → goes path k a b ≡ false
-  unfolding goes
-  goes_not a b h = and_not _ _ h
-
-  -- place r is early enough, and it is not
-  pub reverses_rest : (r : ℕ) → r < k → goes path k (at path (r + 1)) (at path r) ≡ reverses path k r
-  unfolding reverses
-  reverses_rest r h = rw (add_one r) (sym (and_rest _ _ (lt-ltb r k h)))
-
-  pub reverses_not : (r : ℕ) → k ≤ r → reverses path k r ≡ false
-  unfolding reverses
-  reverses_not r h = and_not _ _ (le-ltb r k h)
 
 module _ (cs : List Contour) (total : ℕ) (ms : List ℕ) (k : ℕ) (work : List ℕ) (t : Tallied cs total ms (suc k) work) (xs path : List Float) (v : ℕ) where
   abbrev word : ℕ → ℕ

@@ -1,22 +1,17 @@
--- What an answer tells of refusals 1 to 3.
-use Rattle.std.proofs.Common.{◌≡◌, ℕ, List, sym, ap, ◌∙◌}
-use Rattle.std.specs.Prelude.{Float}
-use Rattle.rules.specs.Tools.{sum}
-use Rattle.rules.specs.HandedOver.{gives, refused_by}
-use Rattle.path.specs.Rows.{Passed, rows_give, rows_pass}
-use Rattle.plate.specs.declared.Checked.{Checked}
-use Rattle.plate.specs.declared.Checked.TheVariants.{Sound}
-use Rattle.plate.specs.Answer.{checked_answer, count_rows}
+-- What a part of the check tells of its rows, and its refusal among all rows. Assumes nothing.
+use Rattle.std.proofs.Common.{◌≡◌, List, ◌++◌, Ok, Err, sym, ◌∙◌}
+use Rattle.rules.specs.HandedOver.{answer_of, gives, RefusalRow, refused_by}
+use Rattle.rules.specs.declared.Refusal.{Refusal}
+use Rattle.path.specs.Rows.{Passed, rows_give, rows_pass, rows_append, refusal_refuses}
 
--- the answer that refusals 1 to 3 ask for
-abbrev pub Counts : Checked → List Float → List ℕ → Type 0
-Counts c xs ns = checked_answer c ≡ refused_by (count_rows xs ns) (gives (sum ns))
+pub passed : {A : Type 0} (rs : List RefusalRow) (a v : A) → answer_of (Ok v) ≡ refused_by rs (gives a) → Passed rs × (gives a ≡ gives v)
+unfolding answer_of
+passed rs a v h = rows_give rs (gives a) v (sym h)
 
-pub counts_passed : (k : ℕ) (xs : List Float) (ns : List ℕ) → Counts (Sound k) xs ns → Passed (count_rows xs ns)
-unfolding checked_answer
-counts_passed k xs ns h = (rows_give _ _ _ (sym h)).0
-
--- what a sound answer is
-pub counts_sound : (c : Checked) (k : ℕ) (xs : List Float) (ns : List ℕ) → c ≡ Sound k → Counts c xs ns → checked_answer c ≡ gives (sum ns)
-counts_sound c k xs ns e h =
-    h ∙ rows_pass (count_rows xs ns) (counts_passed k xs ns (sym (ap checked_answer e) ∙ h)) (gives (sum ns))
+-- behind rows that have passed
+pub refuses_among : {A B : Type 0} (before now after : List RefusalRow) (e : Refusal) (a : A) (b : B) → Passed before →
+    answer_of (Err e) ≡ refused_by now (gives a) → answer_of (Err e) ≡ refused_by (before ++ (now ++ after)) (gives b)
+unfolding answer_of
+refuses_among before now after e a b p h =
+    refusal_refuses now e a (refused_by after (gives b)) h
+    ∙ sym (rows_append before (now ++ after) (gives b) ∙ rows_pass before p (refused_by (now ++ after) (gives b)) ∙ rows_append now after (gives b))

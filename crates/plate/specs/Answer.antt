@@ -1,13 +1,6 @@
 -- What the check of points and lengths answers, and the rows that its parts test. Definitions only.
 use Rattle.std.specs.Prelude.{ℕ, List, [], ◌∷◌, Float}
-use Rattle.rules.specs.HandedOver.{Answer, gives, refusal, RefusalRow, too_many_contours, too_many_points, miscounted}
-use Rattle.plate.specs.declared.Checked.{Checked}
-use Rattle.plate.specs.declared.Checked.TheVariants.{Sound, Unsound}
-
--- P, or the refusal's number and place
-unfoldable pub checked_answer : Checked → Answer ℕ
-checked_answer (Sound n) = gives n
-checked_answer (Unsound r) = refusal r
+use Rattle.rules.specs.HandedOver.{RefusalRow, too_many_contours, too_many_points, miscounted}
 
 -- refusals 1 to 3
 unfoldable pub count_rows : List Float → List ℕ → List RefusalRow

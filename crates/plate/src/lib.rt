@@ -1,19 +1,23 @@
 // The input checks that the calls share: refusals 1 to 3, 13 and 4, in their order, the parked point's 4 before the contours'.
 #![tactic(auto)]
 
-ghost use Rattle.std.specs.Prelude.{◌≡◌, ◌≤◌, length, [], ◌∷◌};
+ghost use Rattle.std.specs.Prelude.{◌≡◌, ◌≤◌, ◌<◌, length, [], ◌∷◌, IfOk, IfSome, IsNone};
 ghost use Rattle.rules.specs.Tools.{sum};
-ghost use Rattle.rules.specs.HandedOver.{gives, in_range, plate_limit, first_off, first_bad, refused_by, off_the_plate, contour_rows, parked_coordinates, input_rows};
-ghost use Rattle.plate.specs.Answer.{checked_answer, count_rows};
+ghost use Rattle.rules.specs.HandedOver.{answer_of, gives, in_range, first_off, first_bad, refused_by, bad_layer_count, bad_layer, off_the_plate, contour_rows, parked_coordinates, plate_rows, plate_of};
+ghost use Rattle.plate.specs.Answer.{count_rows};
+ghost use Rattle.plate.specs.Sound.{counted};
 
-use rules::{HIGHEST_LAYER, Refusal, StartPointStrategy};
+pub mod checked_input;
 
-// The number of points, or why the plate is refused.
-#[derive(Clone, Copy)]
-pub enum Checked {
-    Sound(u32),
-    Unsound(Refusal),
-}
+use crate::checked_input::CheckedInput;
+use rules::{HIGHEST_LAYER, Input, Refusal, StartPointStrategy};
+
+// A plate has at most so many contours and points.
+const MOST_CONTOURS: usize = 4096;
+
+const MOST_POINTS: u64 = 65536;
+
+pub const PLATE_LIMIT: f64 = 1000000.0;
 
 // Whether x is a number of magnitude at most limit.
 pub fn in_range(limit: f64, x: f64) -> bool
@@ -27,115 +31,95 @@ fn point_count(lengths: &[u32]) -> u64
     requires { length lengths.now ≤ 4096 }
     ensures { result ≡ sum lengths.now }
 {
-    let mut total: u64 = 0;
-    let mut i: usize = 0;
-    while i < lengths.len() {
-        total += lengths[i] as u64;
-        i += 1;
-    }
-    total
+    lengths.iter().map(|&n| n as u64).sum()
 }
 
-// The place of the first coordinate that is off the plate, or the slice's length.
-pub fn first_off(points: &[f64]) -> usize
-    ensures { result ≡ first_off plate_limit 0 points.now }
+// The place of the first number that is out of range.
+pub fn first_off(limit: f64, numbers: &[f64]) -> Option<usize>
+    ensures found { IfSome result (λ i. (i < length numbers.now) × (i ≡ first_off limit 0 numbers.now)) }
+    ensures none { IsNone result → first_off limit 0 numbers.now ≡ length numbers.now }
 {
-    let mut i: usize = 0;
-    while i < points.len() {
-        if !in_range(1000000.0, points[i]) {
-            return i;
-        }
-        i += 1;
-    }
-    i
+    numbers.iter().position(|&x| !in_range(limit, x))
 }
 
-// The number of the first contour with a layer above the highest, or the slice's length.
-fn first_bad(layers: &[u32]) -> usize
-    ensures { result ≡ first_bad 0 layers.now }
+// The number of the first contour with a layer above the highest.
+fn first_bad(layers: &[u32]) -> Option<usize>
+    ensures found { IfSome result (λ j. (j < length layers.now) × (j ≡ first_bad 0 layers.now)) }
+    ensures none { IsNone result → first_bad 0 layers.now ≡ length layers.now }
 {
-    let mut i: usize = 0;
-    while i < layers.len() {
-        if HIGHEST_LAYER < layers[i] {
-            return i;
-        }
-        i += 1;
-    }
-    i
+    layers.iter().position(|&l| HIGHEST_LAYER < l)
 }
 
-// Refusals 1 to 3.
-fn check_counts(points: &[f64], lengths: &[u32]) -> Checked
-    ensures { checked_answer result ≡ refused_by (count_rows points.now lengths.now) (gives (sum lengths.now)) }
+// Refusals 1 to 3, or the number of points.
+fn check_counts(points: &[f64], lengths: &[u32]) -> Result<u32, Refusal>
+    ensures { answer_of result ≡ refused_by (count_rows points.now lengths.now) (gives (sum lengths.now)) }
 {
-    if 4096 < lengths.len() {
-        return Checked::Unsound(Refusal::TooManyContours);
+    if MOST_CONTOURS < lengths.len() {
+        return Err(Refusal::TooManyContours);
     }
     let total = point_count(lengths);
-    if 65536 < total {
-        return Checked::Unsound(Refusal::TooManyPoints);
+    if MOST_POINTS < total {
+        return Err(Refusal::TooManyPoints);
     }
     if points.len() as u64 != 2 * total {
-        return Checked::Unsound(Refusal::Miscounted);
+        return Err(Refusal::Miscounted);
     }
-    Checked::Sound(total as u32)
+    Ok(total as u32)
 }
 
-// Refusal 4, of coordinates whose places fit 32 bits, else the answer behind it.
-fn check_points(points: &[f64], answer: Checked) -> Checked
+// Refusal 4, of coordinates whose places fit 32 bits.
+fn check_points(points: &[f64]) -> Result<(), Refusal>
     requires { length points.now ≤ 131072 }
-    ensures { checked_answer result ≡ refused_by (off_the_plate points.now ∷ []) (checked_answer answer) }
+    ensures { answer_of result ≡ refused_by (off_the_plate points.now ∷ []) (gives tt) }
 {
-    let k = first_off(points);
-    if k < points.len() {
-        return Checked::Unsound(Refusal::OffThePlate(k as u32));
+    match first_off(PLATE_LIMIT, points) {
+        Some(k) => Err(Refusal::OffThePlate(k as u32)),
+        None => Ok(()),
     }
-    answer
 }
 
-// Refusal 4, of the parked point, its place within that point, else the answer behind it.
-fn check_parked(strategy: StartPointStrategy, answer: Checked) -> Checked
-    ensures { checked_answer result ≡ refused_by (off_the_plate (parked_coordinates strategy) ∷ []) (checked_answer answer) }
+// Refusal 4, of the parked point, its place within that point.
+fn check_parked(strategy: StartPointStrategy) -> Result<(), Refusal>
+    ensures { answer_of result ≡ refused_by (off_the_plate (parked_coordinates strategy) ∷ []) (gives tt) }
 {
     match strategy {
-        StartPointStrategy::Outside => answer,
-        StartPointStrategy::Inside => answer,
-        StartPointStrategy::Home(parked) => check_points(&[parked.x, parked.y], answer),
+        StartPointStrategy::Outside => Ok(()),
+        StartPointStrategy::Inside => Ok(()),
+        StartPointStrategy::Home(parked) => check_points(&[parked.x, parked.y]),
     }
 }
 
-// Refusals 1 to 4, of contours without layers.
-pub fn check_contours(points: &[f64], lengths: &[u32]) -> Checked
-    ensures { checked_answer result ≡ refused_by (contour_rows points.now lengths.now) (gives (sum lengths.now)) }
+// Refusal 13, of the layers of at most 4,096 contours.
+fn check_layers(contours: usize, layers: &[u32]) -> Result<(), Refusal>
+    requires { contours ≤ 4096 }
+    ensures { answer_of result ≡ refused_by (bad_layer_count contours layers.now ∷ bad_layer layers.now ∷ []) (gives tt) }
 {
-    let counted = check_counts(points, lengths);
-    let Checked::Sound(_) = counted else {
-        return counted;
-    };
-    check_points(points, counted)
+    if layers.len() != contours {
+        return Err(Refusal::BadLayer(contours as u32));
+    }
+    if let Some(j) = first_bad(layers) {
+        return Err(Refusal::BadLayer(j as u32));
+    }
+    Ok(())
 }
 
-// Refusals 1 to 3, 13 and 4.
-pub fn check(
-    points: &[f64],
-    lengths: &[u32],
-    layers: &[u32],
-    strategy: StartPointStrategy,
-) -> Checked
-    ensures { checked_answer result ≡ refused_by (input_rows points.now lengths.now layers.now strategy) (gives (sum lengths.now)) }
+// Refusals 1 to 4, of contours without layers, or the number of points.
+pub fn check_contours(points: &[f64], lengths: &[u32]) -> Result<u32, Refusal>
+    ensures { answer_of result ≡ refused_by (contour_rows points.now lengths.now) (gives (sum lengths.now)) }
 {
-    let counted = check_counts(points, lengths);
-    let Checked::Sound(_) = counted else {
-        return counted;
-    };
-    if layers.len() != lengths.len() {
-        return Checked::Unsound(Refusal::BadLayer(lengths.len() as u32));
-    }
-    let b = first_bad(layers);
-    if b < layers.len() {
-        return Checked::Unsound(Refusal::BadLayer(b as u32));
-    }
-    // The parked point's refusal goes over the coordinates', so it comes first.
-    let checked = check_points(points, counted);
-    check_parked(strategy, checked)
+    let count = check_counts(points, lengths)?;
+    check_points(points)?;
+    Ok(count)
+}
+
+// Refusals 1 to 3, 13 and 4, the parked point's 4 before the contours'.
+pub fn check<'a>(input: &Input<'a>) -> Result<CheckedInput<'a>, Refusal>
+    ensures answer { answer_of (counted result) ≡ refused_by (plate_rows (plate_of input.now)) (gives (sum input.now.lengths.now)) }
+    ensures same { IfOk result (λ c. c.input ≡ input.now) }
+{
+    check_counts(input.points, input.lengths)?;
+    check_layers(input.lengths.len(), input.layers)?;
+    check_parked(input.strategy)?;
+    check_points(input.points)?;
+    Ok(CheckedInput { input: *input })
 }

@@ -1,15 +1,15 @@
 // The distances of two points, as the Rust's methods of `Point` have them, and the distance call.
 #![tactic(auto)]
 
-ghost use Rattle.std.specs.Prelude.{◌≡◌, [], ◌∷◌};
-ghost use Rattle.rules.specs.HandedOver.{distance_limit, first_off, distance_answer};
+ghost use Rattle.std.specs.Prelude.{◌≡◌};
+ghost use Rattle.rules.specs.HandedOver.{answer_of};
 ghost use Rattle.rules.specs.Distances as distances;
 ghost use Rattle.rules.specs.Calls.{distance_call};
 
 use compare::is_finite;
 use fused_sum::square_plus;
-use plate::in_range;
-use rules::{DistanceAnswer, Point, Refusal};
+use plate::first_off;
+use rules::{Point, Refusal};
 use square_root::square_root;
 
 pub mod bound;
@@ -41,34 +41,15 @@ pub fn distance(p: Point, q: Point) -> f64
     square_root(squared)
 }
 
-// The place of the first coordinate of two points that is out of the distance call's range, or 4.
-fn first_off(a: Point, b: Point) -> u32
-    ensures { result ≡ first_off distance_limit 0 (a.x ∷ a.y ∷ b.x ∷ b.y ∷ []) }
-{
-    if !in_range(2147483648.0, a.x) {
-        return 0;
-    }
-    if !in_range(2147483648.0, a.y) {
-        return 1;
-    }
-    if !in_range(2147483648.0, b.x) {
-        return 2;
-    }
-    if !in_range(2147483648.0, b.y) {
-        return 3;
-    }
-    4
-}
+// The distance call takes coordinates of at most this magnitude.
+const DISTANCE_LIMIT: f64 = 2147483648.0;
 
 // The distance call: squared and plain distance, or refusal 4.
-pub fn distance_call(a: Point, b: Point) -> DistanceAnswer
-    ensures { distance_answer result ≡ distance_call a b }
+pub fn distance_call(a: Point, b: Point) -> Result<(f64, f64), Refusal>
+    ensures { answer_of result ≡ distance_call a b }
 {
-    let place = first_off(a, b);
-    if place < 4 {
-        return DistanceAnswer::NoDistances(Refusal::OffThePlate(place));
+    match first_off(DISTANCE_LIMIT, &[a.x, a.y, b.x, b.y]) {
+        Some(place) => Err(Refusal::OffThePlate(place as u32)),
+        None => Ok((distance_squared(a, b), distance(a, b))),
     }
-    let squared = distance_squared(a, b);
-    let plain = distance(a, b);
-    DistanceAnswer::Distances(squared, plain)
 }

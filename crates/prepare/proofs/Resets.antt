@@ -1,6 +1,6 @@
 -- Resetting the caches, contour by contour. Assumes nothing.
 use Prim.Native.Nat.{ℕ, zero, suc, ◌+◌, ◌≤◌, ◌<◌}
-use mathlib.Core.Path.{◌≡◌, refl, subst, ◌∙◌}
+use mathlib.Core.Path.{◌≡◌, refl, ◌∙◌}
 use mathlib.Core.Bool.{false}
 use mathlib.Core.List.{List, [], ◌∷◌}
 use native.Mathlib.Omega.{arith}
@@ -31,21 +31,18 @@ first_most (n ∷ ns) zero = omega arith
 first_most (n ∷ ns) (suc j) = omega (arith, first_most ns j)
 
 -- contours 0 to j − 1 are reset, and `first` is contour j's first vertex
-pub record Resetting (lengths : List ℕ) (lay : Layout) (far : Float) (ds₀ : List Float) (w₀ : List ℕ) (ds : List Float) (w : List ℕ) (first j : ℕ) : Type 0 where
+pub record Resetting (lengths : List ℕ) (lay : Layout) (ds₀ : List Float) (w₀ : List ℕ) (ds : List Float) (w : List ℕ) (first j : ℕ) : Type 0 where
   pub most : j ≤ lay.contours
-  pub far_is : far ≡ inf false
   pub first_is : first ≡ first_vertex lengths j
   pub reset : Reset lengths lay j w₀ ds w
   pub same_ds : length ds ≡ length ds₀
   pub same_w : length w ≡ length w₀
 
-pub resetting_start : (lengths : List ℕ) (lay : Layout) (far : Float) (ds : List Float) (w : List ℕ) → far ≡ inf false →
-    Resetting lengths lay far ds w ds w 0 0
+pub resetting_start : (lengths : List ℕ) (lay : Layout) (ds : List Float) (w : List ℕ) → Resetting lengths lay ds w ds w 0 0
 unfolding first_vertex sum
-resetting_start lengths lay far ds w e =
+resetting_start lengths lay ds w =
     record {
       most = omega arith;
-      far_is = e;
       first_is = refl;
       reset = record {
         squared = λ i l. absurd (omega arith);
@@ -59,9 +56,9 @@ resetting_start lengths lay far ds w e =
       same_w = refl;
     }
 
-module _ (lengths : List ℕ) (lay : Layout) (far : Float) (ds₀ : List Float) (w₀ : List ℕ)
+module _ (lengths : List ℕ) (lay : Layout) (ds₀ : List Float) (w₀ : List ℕ)
     (laid : Laid lay (length w₀)) (few : lay.contours ≡ length lengths) (long : lay.contours ≤ length ds₀)
-    (ds : List Float) (w : List ℕ) (first j : ℕ) (r : Resetting lengths lay far ds₀ w₀ ds w first j) (l : j < length lengths) where
+    (ds : List Float) (w : List ℕ) (first j : ℕ) (r : Resetting lengths lay ds₀ w₀ ds w first j) (l : j < length lengths) where
   pub resetting_room : first + get_or lengths j 0 ≤ sum lengths
   resetting_room = omega (arith, r.first_is, first_step lengths j l, first_most lengths (j + 1))
 
@@ -94,11 +91,10 @@ module _ (lengths : List ℕ) (lay : Layout) (far : Float) (ds₀ : List Float) 
   new_first : get_or w₃ (lay.firsts + j) 0 ≡ first
   new_first = get_or-set_same w₂ (lay.firsts + j) first 0 (simp length-set (omega (arith, laid, few, r.same_w)))
 
-  pub resetting_step : Resetting lengths lay far ds₀ w₀ (set ds j far) w₃ (first + get_or lengths j 0) (j + 1)
+  pub resetting_step : Resetting lengths lay ds₀ w₀ (set ds j (inf false)) w₃ (first + get_or lengths j 0) (j + 1)
   resetting_step =
       record {
         most = omega arith;
-        far_is = r.far_is;
         first_is = omega (arith, r.first_is, first_step lengths j l);
         reset = record {
           squared = λ i h. squared i h (ℕ_discrete i j);
@@ -108,13 +104,13 @@ module _ (lengths : List ℕ) (lay : Layout) (far : Float) (ds₀ : List Float) 
           below = λ i h. other i (λ e. omega arith) (λ e. omega (arith, laid)) (λ e. omega (arith, laid)) ∙ r.reset.below i h;
           samples = λ i g h. other i (λ e. omega (arith, laid, few)) (λ e. omega arith) (λ e. omega (arith, laid)) ∙ r.reset.samples i g h;
         };
-        same_ds = length-set ds j far ∙ r.same_ds;
+        same_ds = length-set ds j (inf false) ∙ r.same_ds;
         same_w = length-set w₂ (lay.firsts + j) _ ∙ length-set w₁ (lay.waiting + j) _ ∙ length-set w (lay.entries + j) _ ∙ r.same_w;
       }
     where
-      squared : (i : ℕ) → i < j + 1 → Dec (i ≡ j) → get_or (set ds j far) i nan ≡ inf false
-      squared i h (yes e) = rw e (get_or-set_same ds j far nan (omega (arith, few, r.same_ds)) ∙ r.far_is)
-      squared i h (no d) = get_or-set_other ds j i far nan d ∙ r.reset.squared i (omega arith)
+      squared : (i : ℕ) → i < j + 1 → Dec (i ≡ j) → get_or (set ds j (inf false)) i nan ≡ inf false
+      squared i h (yes e) = rw e (get_or-set_same ds j (inf false) nan (omega (arith, few, r.same_ds)))
+      squared i h (no d) = get_or-set_other ds j i (inf false) nan d ∙ r.reset.squared i (omega arith)
 
       entry : (i : ℕ) → i < j + 1 → Dec (i ≡ j) → get_or w₃ (lay.entries + i) 0 ≡ first_vertex lengths i
       entry i h (yes e) = rw e (new_entry ∙ r.first_is)
@@ -130,9 +126,3 @@ module _ (lengths : List ℕ) (lay : Layout) (far : Float) (ds₀ : List Float) 
       firsts i h (yes e) = rw e (new_first ∙ r.first_is)
       firsts i h (no d) =
           other (lay.firsts + i) (λ e. omega (arith, laid, few)) (λ e. omega (arith, laid, few)) (λ e. d (omega arith)) ∙ r.reset.first i (omega arith)
-
-pub resetting_done : (lengths : List ℕ) (lay : Layout) (far : Float) (ds₀ : List Float) (w₀ : List ℕ) (ds : List Float) (w : List ℕ) (first j : ℕ) →
-    Resetting lengths lay far ds₀ w₀ ds w first j → lay.contours ≤ j → Reset lengths lay lay.contours w₀ ds w
-resetting_done lengths lay far ds₀ w₀ ds w first j r l =
-    let e : j ≡ lay.contours = omega (arith, r.most) in
-    subst (λ (n : ℕ). Reset lengths lay n w₀ ds w) e r.reset

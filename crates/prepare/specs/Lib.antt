@@ -3,3 +3,4 @@ pub mod Prepared
 pub mod Staying
 pub mod Marks
 pub mod Reset
+pub mod Framed

@@ -9,25 +9,24 @@ ghost use Rattle.path.specs.Accepted.{Accepted};
 ghost use Rattle.path.specs.Lists.{All};
 ghost use Rattle.layout.specs.Laid.{Laid};
 ghost use Rattle.layout.specs.Parts.{from, KeptBelow};
-ghost use Rattle.samples.specs.Plated.{Plated};
-ghost use Rattle.prepare.specs.Holds.{Holds};
+ghost use Rattle.samples.specs.Framed.{PlatedBy};
 ghost use Rattle.prepare.specs.Marks.{MarkedPart};
-ghost use Rattle.prepare.specs.Prepared.{Prepared};
+ghost use Rattle.prepare.specs.Framed.{PreparedBy, HoldsBy};
 ghost use Rattle.prepare.specs.Reset.{Reset};
 
 use layout::{Layout, clear};
-use rules::SpatialGrid;
-use samples::{chain_samples, mark_samples};
+use samples::{Frame, chain_samples, mark_samples};
 
 // Marks the samples of all contours, in their part of the slice.
-fn mark_part(points: &[f64], lengths: &[u32], work: &mut [u32], lay: Layout, resolution: f64)
-    requires { (Accepted points.now lengths.now) × (Laid lay (length work.old))
-        × (lay.points ≡ sum lengths.now) × (lay.contours ≡ length lengths.now) }
-    ensures { MarkedPart points.now resolution lengths.now lay work.old work.new }
+fn mark_part(frame: &Frame<'_>, lengths: &[u32], work: &mut [u32])
+    requires { (Accepted frame.now.points.now lengths.now) × (Laid frame.now.layout (length work.old))
+        × (frame.now.layout.points ≡ sum lengths.now) × (frame.now.layout.contours ≡ length lengths.now) }
+    ensures { MarkedPart frame.now.points.now frame.now.grid.spatial.cell_size lengths.now frame.now.layout work.old work.new }
 {
-    let a = lay.owners;
-    let b = a + lay.points;
-    mark_samples(points, lengths, &mut work[a..b], resolution);
+    let a = frame.layout.owners;
+    let b = a + frame.layout.points;
+    let resolution = frame.grid.spatial.cell_size;
+    mark_samples(frame.points, lengths, &mut work[a..b], resolution);
 }
 
 // Each contour is infinitely far, and enters at its first vertex; it waits, unless it is empty.
@@ -36,42 +35,32 @@ fn reset_caches(lengths: &[u32], distances: &mut [f64], work: &mut [u32], lay: L
         × (sum lengths.now ≤ 65536) }
     ensures { Reset lengths.now lay lay.contours work.old distances.new work.new }
 {
-    let infinity = 1.0 / 0.0;
     let mut first: u32 = 0;
-    for j in 0..lengths.len() {
-        let size = lengths[j];
-        distances[j] = infinity;
-        let e = lay.entries + j;
-        work[e] = first;
-        let a = lay.waiting + j;
-        work[a] = size;
-        let f = lay.firsts + j;
-        work[f] = first;
+    for (j, &size) in lengths.iter().enumerate() {
+        distances[j] = f64::INFINITY;
+        work[lay.entries + j] = first;
+        work[lay.waiting + j] = size;
+        work[lay.firsts + j] = first;
         first += size;
     }
 }
 
 // Marks and chains the samples of all contours, and resets flags and caches.
-pub fn prepare(
-    points: &[f64],
-    lengths: &[u32],
-    g: SpatialGrid,
-    distances: &mut [f64],
-    work: &mut [u32],
-    lay: Layout,
-)
-    requires { (Accepted points.now lengths.now) × (Plated points.now g lay work.old)
-        × (lay.points ≡ sum lengths.now) × (lay.contours ≡ length lengths.now) × (lay.contours ≤ length distances.old) }
-    ensures { (Prepared points.now g lay distances.new work.new)
-        × ((p : Plate) → p.points ≡ points.now →
-        All (λ c. Holds points.now g lay distances.new work.new (waiting p g c)) (contours_from 0 0 lengths.now))
-        × ((k : ℕ) → k < lay.cells → from work.new lay.flags k ≡ 0)
-        × (KeptBelow lay.flags work.old work.new)
-        × ((j : ℕ) → j < lay.contours → from work.new lay.waiting j ≡ get_or lengths.now j 0) }
+pub fn prepare(frame: &Frame<'_>, lengths: &[u32], distances: &mut [f64], work: &mut [u32])
+    requires { (Accepted frame.now.points.now lengths.now) × (PlatedBy frame.now work.old)
+        × (frame.now.layout.points ≡ sum lengths.now) × (frame.now.layout.contours ≡ length lengths.now)
+        × (frame.now.layout.contours ≤ length distances.old) }
+    ensures { (PreparedBy frame.now distances.new work.new)
+        × ((p : Plate) → p.points ≡ frame.now.points.now →
+        All (λ c. HoldsBy frame.now distances.new work.new (waiting p frame.now.grid.spatial c)) (contours_from 0 0 lengths.now))
+        × ((k : ℕ) → k < frame.now.layout.cells → from work.new frame.now.layout.flags k ≡ 0)
+        × (KeptBelow frame.now.layout.flags work.old work.new)
+        × ((j : ℕ) → j < frame.now.layout.contours → from work.new frame.now.layout.waiting j ≡ get_or lengths.now j 0) }
 {
+    let lay = frame.layout;
     clear(&mut *work, lay.flags, lay.list);
     clear(&mut *work, lay.heads, lay.next);
-    mark_part(points, lengths, &mut *work, lay, g.cell_size);
+    mark_part(frame, lengths, &mut *work);
     reset_caches(lengths, &mut *distances, &mut *work, lay);
-    chain_samples(points, g, &mut *work, lay);
+    chain_samples(frame, &mut *work);
 }

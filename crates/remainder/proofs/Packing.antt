@@ -1,7 +1,8 @@
 -- From a significand of at most 53 digits and an exponent to the bit pattern. Assumes nothing.
-use Rattle.std.specs.Prelude.{◌≡◌, refl, ◌⊎◌, false, ℕ, suc, ◌+◌, ◌-◌, ◌*◌, ◌%◌, ◌^◌, ◌≤◌, ◌<◌, not, T}
+use Rattle.std.specs.Prelude.{◌≡◌, refl, ◌⊎◌, false, ℕ, suc, ◌+◌, ◌-◌, ◌*◌, ◌%◌, ◌^◌, ◌≤◌, ◌<◌, min, not, T}
 use Rattle.std.proofs.Common.{sym, ap, ap₂, ◌∙◌, subst, inl, inr, le_refl, le_trans, le_of_eq, le_of_lt, lt_of_lt_of_le, lt_of_le_of_lt, one-mul, mul_assoc, mul-pos, mul-le-mul_left, mul-le-mul_right, mul-lt-mul_of_pos_right, mul-div_cancel, mod-eq_of_lt, arith, pow-add, pow_pos, pow_mono, shl_lt}
 use Rattle.std.proofs.Math.Nat.{mul-mod_left}
+use Rattle.std.proofs.Math.Decide.{dec_lt}
 use Prim.Native.Nat.{compare, Ordering}
 use Rattle.std.specs.Int.Count.{count_leading_zeros}
 use Rattle.std.proofs.lemmas.Nat.{leading_top}
@@ -38,11 +39,18 @@ module _ (r e : ℕ) (P : 0 < r) (S : r < 2 ^ 53) where
         le_trans (le_of_eq (ap (λ (n : ℕ). 2 ^ n) (sym least) ∙ pow-add 2 j (z - 11))) (mul-le-mul_right (2 ^ (z - 11)) t.2),
       )
 
-  pub takes_room : room < e → Taken r e room
+  takes_room : room < e → Taken r e room
   takes_room h = (le_of_lt h, filled.0, inr filled.1)
 
-  pub takes_all : e ≤ room → Taken r e e
+  takes_all : e ≤ room → Taken r e e
   takes_all h = (le_refl e, lt_of_le_of_lt (mul-le-mul_left r (pow_mono h)) filled.0, inl refl)
+
+  pub takes : Taken r e (min room e)
+  takes = go (dec_lt room e)
+    where
+      go : Dec (room < e) → Taken r e (min room e)
+      go (yes h) = let m : min room e ≡ room = omega arith in rw m (takes_room h)
+      go (no h) = let m : min room e ≡ e = omega arith in rw m (takes_all (omega arith))
 
 -- ---- the pattern
 

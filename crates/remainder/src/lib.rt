@@ -16,7 +16,7 @@ const FIELD_UNIT: u64 = 4503599627370496;
 
 const SIGN_BIT: u64 = 9223372036854775808;
 
-// n × 2^d mod m, as many digits at a time as fit.
+// n × 2^d mod m, as many digits at a time as fit: the loop counts digits, and no index.
 fn shifted_remainder(n: u64, d: u64, m: u64) -> u64
     requires { (n < 2 ^ 53) × (0 < m) × (m < 2 ^ 53) }
     ensures { result ≡ n * 2 ^ d % m }
@@ -35,8 +35,8 @@ fn twos_taken(r: u64, e: u64) -> u64
     requires { (0 < r) × (r < 2 ^ 53) }
     ensures { (result ≤ e) × (r * 2 ^ result < 2 ^ 53) × ((result ≡ e) ⊎ (2 ^ 52 ≤ r * 2 ^ result)) }
 {
-    let room = u64::leading_zeros(r) as u64 - SPARE_DIGITS;
-    if room < e { room } else { e }
+    let room = r.leading_zeros() as u64 - SPARE_DIGITS;
+    room.min(e)
 }
 
 // The float r × 2^e, in units of 2^-1074. The significand's leading digit adds one to the exponent's field.
@@ -66,14 +66,14 @@ fn finite_remainder(t: f64, s: f64) -> f64
     }
     let r = shifted_remainder(a.significand, a.exponent - b.exponent, b.significand);
     let magnitude = float_of(r, b.exponent);
-    if f64::to_bits(t) < SIGN_BIT {
+    if t.to_bits() < SIGN_BIT {
         magnitude
     } else {
         -magnitude
     }
 }
 
-// Rust's t % s. Of what is not finite only a NaN differs from itself.
+// Rust's t % s, without the C library's fmod, which differs from system to system. Of what is not finite only a NaN differs from itself.
 pub fn remainder(t: f64, s: f64) -> f64
     ensures { result ≡ rem binary64 t s }
 {

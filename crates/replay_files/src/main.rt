@@ -8,11 +8,16 @@
 
 ghost use Rattle.std.specs.Prelude.{◌≤◌};
 
+use rows::{Row, replay, sizes_at, words_at};
+use std::alloc::{AllocError, Global};
+use std::io;
 use twillharbor::{twillharbor_read_file, twillharbor_write_file};
-use words::{copy_floats, copy_numbers, ends_at, floats_differ, numbers_differ, word_at};
+use words::{word_at, words_differ};
 
 // A text of as many bytes, or more, is no list.
 const ROOM: usize = 262144;
+
+const MOST_ROWS: u64 = 15420;
 
 // As many words fit.
 const WORDS: usize = 15420;
@@ -27,73 +32,46 @@ const TWICE: usize = 3072;
 fn byte_at(text: &[u8], i: usize, k: usize) -> u8
     requires { i ≤ 20000 }
 {
-    let w = word_at(text, i + k / 8);
-    ((w >> (56 - 8 * (k % 8))) % 256) as u8
+    word_at(text, i + k / 8).to_be_bytes()[k % 8]
 }
 
 // Whether the bytes are those of the words from word i on.
 fn bytes_agree(text: &[u8], i: usize, bytes: &[u8]) -> bool
     requires { i ≤ 20000 }
 {
-    let mut k = 0;
-    while k < bytes.len() {
-        if bytes[k] != byte_at(text, i, k) {
+    for (k, &byte) in bytes.iter().enumerate() {
+        if byte != byte_at(text, i, k) {
             return false;
         }
-        k += 1;
     }
     true
 }
 
-// Each byte becomes that of the words from word i on, and behind `size` bytes it is the first again.
-fn copy_bytes(text: &[u8], i: usize, size: usize, bytes: &mut [u8])
+// What is read from a file of `size` bytes, whose words begin at word i: the file twice over, or zeros where it has no byte.
+fn twice_over(alloc: Global, text: &[u8], i: usize, size: usize) -> Result<Vec<u8>, AllocError>
     requires { i ≤ 20000 }
 {
+    let mut bytes = vec![in alloc; LENT; TWICE]?;
     if size == 0 {
-        return;
+        return Ok(bytes);
     }
-    let mut k = 0;
-    while k < bytes.len() {
-        bytes[k] = byte_at(text, i, k % size);
-        k += 1;
+    for (k, byte) in bytes.iter_mut().enumerate() {
+        *byte = byte_at(text, i, k % size);
     }
+    Ok(bytes)
 }
 
-fn put(bytes: &mut [u8], place: usize, value: u8) {
-    if place < bytes.len() {
-        bytes[place] = value;
-    }
-}
-
-// Alters as many bytes as `count` says: those of the words from word i on.
+// Alters as many bytes as `count` says: those of the words from word i on, each a place times 256 and a value.
 fn alter(text: &[u8], i: usize, count: usize, bytes: &mut [u8])
     requires i_bound { i ≤ 20000 }
     requires count_bound { count ≤ 64 }
 {
     for k in 0..count {
         let w = word_at(text, i + k);
-        put(bytes, (w / 256) as usize, (w % 256) as u8);
+        if let Some(byte) = bytes.get_mut((w / 256) as usize) {
+            *byte = (w % 256) as u8;
+        }
     }
-}
-
-// The write call on slices lent, after the path was copied. Its answer stands at word i, the path at word i + 4, and what the file
-// slice then holds at word j.
-fn write_agrees(text: &[u8], i: usize, j: usize, path: &mut [f64], file: &mut [u8]) -> bool
-    requires i_bound { i ≤ 20000 }
-    requires j_bound { j ≤ 20000 }
-{
-    copy_floats(text, i + 4, path);
-    let r = twillharbor_write_file(path, file);
-    let numbers = [r.number, r.place, r.bytes];
-    let same = bytes_agree(text, j, file);
-    numbers_differ(text, i, &numbers) == 0 && same
-}
-
-// The read call on slices lent. Its answer stands at word i, what the path slice then holds at word j.
-fn read_agrees(text: &[u8], i: usize, j: usize, file: &[u8], path: &mut [f64]) -> bool {
-    let r = twillharbor_read_file(file, path);
-    let numbers = [r.number, r.place, r.points];
-    numbers_differ(text, i, &numbers) == 0 && floats_differ(text, j, path) == 0
 }
 
 // Where a file stands in the text, and how many bytes it has.
@@ -112,165 +90,128 @@ struct Reading {
     altered: usize,
 }
 
-// Whether the row, or the reading, agrees, and the word behind it. One with a size above its limit is broken, and what follows it cannot
-// be read.
-#[derive(Clone, Copy)]
-enum Row {
-    Read(bool, usize),
-    Broken,
-}
-
-// A reading at word i.
-fn sized_reading(text: &[u8], i: usize, file: File, r: Reading) -> Row
+// A reading whose first word is word i. One with a size above its limit is broken, and what follows it cannot be read.
+fn sized_reading(
+    alloc: Global,
+    text: &[u8],
+    i: usize,
+    file: File,
+    r: Reading,
+) -> Result<Option<Row>, AllocError>
     requires i_bound { i ≤ 15420 }
     requires word_bound { file.word ≤ 20000 }
 {
-    let from = r.from;
-    let to = r.to;
-    let room = r.room;
-    let altered = r.altered;
-    if TWICE < to || to < from {
-        return Row::Broken;
+    if TWICE < r.to || r.to < r.from || 192 < r.room || 64 < r.altered {
+        return Ok(None);
     }
-    if 192 < room {
-        return Row::Broken;
-    }
-    if 64 < altered {
-        return Row::Broken;
-    }
-    let then = i + 7 + altered;
-    let end = then + room;
-    let mut bytes = [LENT; TWICE];
-    let mut path = [100.0f64; 192];
-    copy_bytes(text, file.word, file.bytes, &mut bytes);
-    alter(text, i + 7, altered, &mut bytes);
-    let agrees = read_agrees(text, i + 4, then, &bytes[from..to], &mut path[..room]);
-    Row::Read(agrees, end)
-}
-
-fn size(n: u32) -> usize {
-    n as usize
+    let then = i + 7 + r.altered;
+    let mut bytes = twice_over(alloc, text, file.word, file.bytes)?;
+    alter(text, i + 7, r.altered, bytes.as_mut_slice());
+    let mut path = vec![in alloc; 100.0f64; r.room]?;
+    let read = match bytes.as_slice().get(r.from..r.to) {
+        Some(part) => twillharbor_read_file(part, path.as_mut_slice()),
+        None => return Ok(None),
+    };
+    let same = words_differ(text, then, path.as_slice()) == 0;
+    Ok(Some(Row {
+        agrees: words_differ(text, i + 4, &[read.number, read.place, read.points]) == 0 && same,
+        end: then + r.room,
+    }))
 }
 
 // The reading at word i.
-fn reading_at(text: &[u8], i: usize, file: File) -> Row
+fn reading_at(alloc: Global, text: &[u8], i: usize, file: File) -> Result<Option<Row>, AllocError>
     requires { file.word ≤ 20000 }
 {
-    let mut sizes = [0u32; 4];
-    copy_numbers(text, i, &mut sizes);
-    if WORDS < i || numbers_differ(text, i, &sizes) != 0 {
-        return Row::Broken;
+    if WORDS < i {
+        return Ok(None);
     }
-    let r = Reading {
-        from: size(sizes[0]),
-        to: size(sizes[1]),
-        room: size(sizes[2]),
-        altered: size(sizes[3]),
+    let Some(sizes) = sizes_at::<4>(text, i) else {
+        return Ok(None);
     };
-    sized_reading(text, i, file, r)
+    let [from, to, room, altered] = sizes;
+    let r = Reading {
+        from: from as usize,
+        to: to as usize,
+        room: room as usize,
+        altered: altered as usize,
+    };
+    sized_reading(alloc, text, i, file, r)
 }
 
-// The readings of a file, the first at word i: whether all agree, and it agreed before.
-fn readings_at(text: &[u8], i: usize, file: File, readings: u32, before: bool) -> Row
+// The readings of a file, the first at the end of `row`: whether all agree, and the row before them.
+fn readings_at(
+    alloc: Global,
+    text: &[u8],
+    file: File,
+    readings: u32,
+    row: Row,
+) -> Result<Option<Row>, AllocError>
     requires { file.word ≤ 20000 }
 {
-    let mut agree = before;
-    let mut at = i;
-    for k in 0..readings {
-        let row = reading_at(text, at, file);
-        let Row::Read(agrees, end) = row else {
-            return row;
+    let mut whole = row;
+    for _reading in 0..readings {
+        let Some(reading) = reading_at(alloc, text, whole.end, file)? else {
+            return Ok(None);
         };
-        if !agrees {
-            agree = false;
-        }
-        at = end;
+        whole = Row {
+            agrees: whole.agrees && reading.agrees,
+            end: reading.end,
+        };
     }
-    Row::Read(agree, at)
+    Ok(Some(whole))
 }
 
-// The lengths of a row's slices, and how many bytes were written.
+// The lengths of a row's slices, how many bytes were written, and how many readings there are.
 #[derive(Clone, Copy)]
 struct Sizes {
     path: usize,
     room: usize,
     bytes: usize,
+    readings: u32,
 }
 
-// A row at word i.
-fn sized_row(text: &[u8], i: usize, sizes: Sizes, readings: u32) -> Row
+// A row whose first word is word i: the write call, then the readings.
+fn sized_row(alloc: Global, text: &[u8], i: usize, s: Sizes) -> Result<Option<Row>, AllocError>
     requires { i ≤ 15420 }
 {
-    let points = sizes.path;
-    let room = sizes.room;
-    if 128 < points {
-        return Row::Broken;
+    if 128 < s.path || 1600 < s.room {
+        return Ok(None);
     }
-    if 1600 < room {
-        return Row::Broken;
-    }
-    let word = i + 6 + points;
-    let end = word + (room + 7) / 8;
-    let mut path = [0.0f64; 128];
-    let mut file = [LENT; 1600];
-    let agrees = write_agrees(text, i + 2, word, &mut path[..points], &mut file[..room]);
-    let written = File {
-        word: word,
-        bytes: sizes.bytes,
+    let word = i + 6 + s.path;
+    let path = words_at(alloc, text, i + 6, s.path)?;
+    let mut file = vec![in alloc; LENT; s.room]?;
+    let r = twillharbor_write_file(path.as_slice(), file.as_mut_slice());
+    let same = bytes_agree(text, word, file.as_slice());
+    let row = Row {
+        agrees: words_differ(text, i + 2, &[r.number, r.place, r.bytes]) == 0 && same,
+        end: word + s.room.div_ceil(8),
     };
-    readings_at(text, end, written, readings, agrees)
+    let written = File {
+        word,
+        bytes: s.bytes,
+    };
+    readings_at(alloc, text, written, s.readings, row)
 }
 
 // The row at word i.
-fn row_at(text: &[u8], i: usize) -> Row {
-    let mut sizes = [0u32; 6];
-    copy_numbers(text, i, &mut sizes);
-    if WORDS < i || numbers_differ(text, i, &sizes) != 0 {
-        return Row::Broken;
+fn row_at(alloc: Global, text: &[u8], i: usize) -> Result<Option<Row>, AllocError> {
+    if WORDS < i {
+        return Ok(None);
     }
-    let handed = Sizes {
-        path: size(sizes[0]),
-        room: size(sizes[1]),
-        bytes: size(sizes[4]),
+    let Some(sizes) = sizes_at::<6>(text, i) else {
+        return Ok(None);
     };
-    sized_row(text, i, handed, sizes[5])
+    let [path, room, _, _, bytes, readings] = sizes;
+    let handed = Sizes {
+        path: path as usize,
+        room: room as usize,
+        bytes: bytes as usize,
+        readings,
+    };
+    sized_row(alloc, text, i, handed)
 }
 
-// How many of the rows differ. A broken row counts as one that differs, and is the last that is read; a text that does not end with the
-// last row has one more that differs.
-fn replay(text: &[u8], rows: u64) -> u64
-    requires { rows ≤ 15420 }
-{
-    let mut differ: u64 = 0;
-    let mut i: usize = 1;
-    for k in 0..rows {
-        let row = row_at(text, i);
-        let Row::Read(agrees, end) = row else {
-            return differ + 1;
-        };
-        if !agrees {
-            differ += 1;
-        }
-        i = end;
-    }
-    if ends_at(text, i) {
-        return differ;
-    }
-    differ + 1
-}
-
-fn main() {
-    let mut bytes = [0u8; ROOM];
-    let n = io::read_full(0, &mut bytes);
-    let text = &bytes[..n];
-    let rows = word_at(text, 0);
-    if n == ROOM || 15420 < rows {
-        io::write_all(1, b"no list\n");
-        return;
-    }
-    let differ = replay(text, rows);
-    io::print_decimal(1, rows);
-    io::write_all(1, b" rows, ");
-    io::print_decimal(1, differ);
-    io::write_all(1, b" differ\n");
+fn main(rt: HostRuntime) -> io::Result<()> {
+    replay(&rt, rt.alloc(), ROOM, MOST_ROWS, row_at)
 }

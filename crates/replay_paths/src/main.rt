@@ -5,11 +5,16 @@
 
 ghost use Rattle.std.specs.Prelude.{◌≤◌};
 
+use rows::{Row, replay, sizes_at, words_at};
+use std::alloc::{AllocError, Global};
+use std::io;
 use twillharbor::twillharbor_check_path;
-use words::{copy_floats, copy_numbers, ends_at, numbers_differ, word_at};
+use words::{word_at, words_differ};
 
 // A text of as many bytes, or more, is no list.
 const ROOM: usize = 262144;
+
+const MOST_ROWS: u64 = 15420;
 
 // As many words fit.
 const WORDS: usize = 15420;
@@ -20,8 +25,8 @@ const NUMBERS: usize = 2;
 // What each number of the work slice is when it is lent.
 const LENT: u32 = 7;
 
-// The number of a path that does not draw the plate.
-const NOT_DRAWN: u64 = 12;
+// The number of a path that does not draw the plate, as C's struct has it.
+const NOT_DRAWN: u32 = 12;
 
 // The lengths of a row's slices.
 #[derive(Clone, Copy)]
@@ -33,156 +38,81 @@ struct Sizes {
     work: usize,
 }
 
-// Whether the work slice is as it was lent.
-fn as_lent(work: &[u32]) -> bool {
-    let mut k = 0;
-    while k < work.len() {
-        if work[k] != LENT {
-            return false;
-        }
-        k += 1;
-    }
-    true
+// What is handed over.
+#[derive(Drop)]
+struct Plate {
+    points: Vec<f64>,
+    lengths: Vec<u32>,
+    path: Vec<f64>,
+    marks: Vec<u32>,
 }
 
-// The call answers this number and this place. Where it refuses, but for a path that does not draw the plate, the work slice stays as it
-// was lent.
-fn call_agrees(
-    number: u64,
-    place: u64,
-    points: &[f64],
-    lengths: &[u32],
-    path: &[f64],
-    marks: &[u32],
-    work: &mut [u32],
-) -> bool {
-    let r = twillharbor_check_path(points, lengths, path, marks, work);
-    let free = number == 0 || number == NOT_DRAWN;
-    let kept = as_lent(work);
-    r.number as u64 == number && r.place == place && (free || kept)
-}
-
-// The same, after the coordinates at word i and, behind them, the lengths, the path and the marks were copied into the slices; the answer
-// stands behind the marks. A length or a mark that is no u32 differs.
-fn slices_agree(
-    text: &[u8],
-    i: usize,
-    points: &mut [f64],
-    lengths: &mut [u32],
-    path: &mut [f64],
-    marks: &mut [u32],
-    work: &mut [u32],
-) -> bool
-    requires { i ≤ 15430 }
-{
-    let j = i + points.len();
-    let k = j + lengths.len();
-    let l = k + path.len();
-    let answer = l + marks.len();
-    let number = word_at(text, answer);
-    let place = word_at(text, answer + 1);
-    copy_floats(text, i, points);
-    copy_numbers(text, j, lengths);
-    copy_floats(text, k, path);
-    copy_numbers(text, l, marks);
-    let fit = numbers_differ(text, j, lengths) == 0 && numbers_differ(text, l, marks) == 0;
-    let agree = call_agrees(number, place, points, lengths, path, marks, work);
-    fit && agree
-}
-
-// Whether the row agrees, and the word behind it. A row with a size above its limit is broken, and what follows it cannot be read.
-#[derive(Clone, Copy)]
-enum Row {
-    Read(bool, usize),
-    Broken,
-}
-
-// A row whose coordinates start at word i.
-fn sized_row(text: &[u8], i: usize, sizes: Sizes) -> Row
-    requires { i ≤ 15430 }
-{
-    if 64 < sizes.points
-        || 16 < sizes.lengths
-        || 128 < sizes.path
-        || 128 < sizes.marks
-        || 64 < sizes.work
+impl Plate {
+    // The call's number and place stand at word i. Where it refuses, but for a path that does not draw the plate, the work slice stays as
+    // it was lent.
+    fn agrees(&self, alloc: Global, text: &[u8], i: usize, work: usize) -> Result<bool, AllocError>
+        requires { i ≤ 24000 }
     {
-        return Row::Broken;
+        let mut lent = vec![in alloc; LENT; work]?;
+        let r = twillharbor_check_path(
+            self.points.as_slice(),
+            self.lengths.as_slice(),
+            self.path.as_slice(),
+            self.marks.as_slice(),
+            lent.as_mut_slice(),
+        );
+        let free = r.number == 0 || r.number == NOT_DRAWN;
+        let kept = lent.iter().all(|&n| n == LENT);
+        let same = u64::from(r.number) == word_at(text, i) && r.place == word_at(text, i + 1);
+        Ok(same && (free || kept))
     }
-    let end = i + sizes.points + sizes.lengths + sizes.path + sizes.marks + NUMBERS;
-    let mut points = [0.0f64; 64];
-    let mut lengths = [0u32; 16];
-    let mut path = [0.0f64; 128];
-    let mut marks = [0u32; 128];
-    let mut work = [LENT; 64];
-    let agrees = slices_agree(
-        text,
-        i,
-        &mut points[..sizes.points],
-        &mut lengths[..sizes.lengths],
-        &mut path[..sizes.path],
-        &mut marks[..sizes.marks],
-        &mut work[..sizes.work],
-    );
-    Row::Read(agrees, end)
 }
 
-fn size(n: u32) -> usize {
-    n as usize
+// A row whose coordinates start at word i. A length or a mark that is no u32 differs; one with a size above its limit is broken.
+fn sized_row(alloc: Global, text: &[u8], i: usize, s: Sizes) -> Result<Option<Row>, AllocError>
+    requires { i ≤ 15430 }
+{
+    if 64 < s.points || 16 < s.lengths || 128 < s.path || 128 < s.marks || 64 < s.work {
+        return Ok(None);
+    }
+    let j = i + s.points;
+    let k = j + s.lengths;
+    let l = k + s.path;
+    let answer = l + s.marks;
+    let plate = Plate {
+        points: words_at(alloc, text, i, s.points)?,
+        lengths: words_at(alloc, text, j, s.lengths)?,
+        path: words_at(alloc, text, k, s.path)?,
+        marks: words_at(alloc, text, l, s.marks)?,
+    };
+    let fit = words_differ(text, j, plate.lengths.as_slice()) == 0
+        && words_differ(text, l, plate.marks.as_slice()) == 0;
+    let agrees = plate.agrees(alloc, text, answer, s.work)?;
+    Ok(Some(Row {
+        agrees: fit && agrees,
+        end: answer + NUMBERS,
+    }))
 }
 
 // The row at word i.
-fn row_at(text: &[u8], i: usize) -> Row {
-    let mut sizes = [0u32; 5];
-    copy_numbers(text, i, &mut sizes);
-    if WORDS < i || numbers_differ(text, i, &sizes) != 0 {
-        return Row::Broken;
+fn row_at(alloc: Global, text: &[u8], i: usize) -> Result<Option<Row>, AllocError> {
+    if WORDS < i {
+        return Ok(None);
     }
-    let handed = Sizes {
-        points: size(sizes[0]),
-        lengths: size(sizes[1]),
-        path: size(sizes[2]),
-        marks: size(sizes[3]),
-        work: size(sizes[4]),
+    let Some(sizes) = sizes_at::<5>(text, i) else {
+        return Ok(None);
     };
-    sized_row(text, i + 5, handed)
+    let [points, lengths, path, marks, work] = sizes;
+    let handed = Sizes {
+        points: points as usize,
+        lengths: lengths as usize,
+        path: path as usize,
+        marks: marks as usize,
+        work: work as usize,
+    };
+    sized_row(alloc, text, i + 5, handed)
 }
 
-// How many of the rows differ. A broken row counts as one that differs, and is the last that is read; a text that does not end with the
-// last row has one more that differs.
-fn replay(text: &[u8], rows: u64) -> u64
-    requires { rows ≤ 15420 }
-{
-    let mut differ: u64 = 0;
-    let mut i: usize = 1;
-    for k in 0..rows {
-        let row = row_at(text, i);
-        let Row::Read(agrees, end) = row else {
-            return differ + 1;
-        };
-        if !agrees {
-            differ += 1;
-        }
-        i = end;
-    }
-    if ends_at(text, i) {
-        return differ;
-    }
-    differ + 1
-}
-
-fn main() {
-    let mut bytes = [0u8; ROOM];
-    let n = io::read_full(0, &mut bytes);
-    let text = &bytes[..n];
-    let rows = word_at(text, 0);
-    if n == ROOM || 15420 < rows {
-        io::write_all(1, b"no list\n");
-        return;
-    }
-    let differ = replay(text, rows);
-    io::print_decimal(1, rows);
-    io::write_all(1, b" rows, ");
-    io::print_decimal(1, differ);
-    io::write_all(1, b" differ\n");
+fn main(rt: HostRuntime) -> io::Result<()> {
+    replay(&rt, rt.alloc(), ROOM, MOST_ROWS, row_at)
 }

@@ -1,9 +1,7 @@
 -- No refusal has the number 0; and refusal 12 alone has a place of 64 bits. Assumes nothing.
-use Rattle.std.specs.Prelude.{◌≡◌, refl, ℕ, ◌≤◌}
+use Rattle.std.specs.Prelude.{◌≡◌, refl, ℕ, ◌≤◌, Result, Ok, Err}
 use Rattle.std.proofs.Common.{sym, ap, ◌∙◌, subst, arith}
-use Rattle.rules.specs.HandedOver.{Answer, gives, refuses, number_of, refusal, check_answer}
-use Rattle.rules.specs.declared.CheckAnswer.{CheckAnswer}
-use Rattle.rules.specs.declared.CheckAnswer.TheVariants.{Accepted, NotAccepted}
+use Rattle.rules.specs.HandedOver.{Answer, gives, refuses, number_of, refusal, answer_of}
 use Rattle.rules.specs.declared.Refusal.{Refusal}
 use Rattle.rules.specs.declared.Refusal.TheVariants.{TooManyContours, TooManyPoints, Miscounted, OffThePlate, WorkShort, Full, Blank, BlockDamaged, WrongEnd, NotDrawn, BadLayer}
 use Rattle.path.specs.Rows.{Other}
@@ -45,12 +43,12 @@ number r = r.number
 abbrev pub place : CheckResult → ℕ
 place r = r.place
 
-pub told_accepted : (a : CheckAnswer) → number (check_result (check_answer a)) ≡ 0 → check_answer a ≡ gives tt
-unfolding check_result check_answer refusal
-told_accepted Accepted z = refl
-told_accepted (NotAccepted r) z = absurd (omega (arith, above_zero r))
+pub told_accepted : (a : Result (Unit {0}) Refusal) → number (check_result (answer_of a)) ≡ 0 → answer_of a ≡ gives tt
+unfolding check_result answer_of refusal
+told_accepted (Ok a) z = refl
+told_accepted (Err r) z = absurd (omega (arith, above_zero r))
 
-pub told_place : (a : CheckAnswer) (n : ℕ) → 1 ≤ n → number (check_result (check_answer a)) ≡ n → check_answer a ≡ refuses n (place (check_result (check_answer a)))
-unfolding check_result check_answer refusal
-told_place Accepted n h z = absurd (omega arith)
-told_place (NotAccepted r) n h z = rw z
+pub told_place : (a : Result (Unit {0}) Refusal) (n : ℕ) → 1 ≤ n → number (check_result (answer_of a)) ≡ n → answer_of a ≡ refuses n (place (check_result (answer_of a)))
+unfolding check_result answer_of refusal
+told_place (Ok a) n h z = absurd (omega arith)
+told_place (Err r) n h z = rw z

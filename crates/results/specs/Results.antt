@@ -13,6 +13,11 @@ use Rattle.results.specs.declared.CheckResult.{CheckResult}
 use Rattle.results.specs.declared.WriteFileResult.{WriteFileResult}
 use Rattle.results.specs.declared.ReadFileResult.{ReadFileResult}
 
+-- the number and place of an answer, and what it carries: of a refusal, `zeros`
+unfoldable pub told : {A : Type 0} → Answer A → A → ℕ × ℕ × A
+told (gives a) zeros = (0, 0, a)
+told (refuses n k) zeros = (n, k, zeros)
+
 unfoldable pub distance_result : Answer (Float × Float) → DistanceResult
 distance_result (gives d) = record { number = 0; place = 0; squared = d.0; plain = d.1 }
 distance_result (refuses n k) = record { number = n; place = k; squared = fin false 0 (pos 0); plain = fin false 0 (pos 0) }

@@ -2,55 +2,45 @@
 #![tactic(auto)]
 
 ghost use Rattle.std.specs.Prelude.{◌≡◌, ℕ};
-ghost use Rattle.rules.specs.HandedOver.{refuses, refusal, distance_answer, start_answer, order_answer, straight_answer, retrace_answer, check_answer};
+ghost use Rattle.rules.specs.HandedOver.{refuses, refusal, answer_of};
 ghost use Rattle.path.specs.Rows.{Other};
-ghost use Rattle.file_format.specs.PlateFile.{write_answer, read_answer};
-ghost use Rattle.results.specs.Results.{distance_result, start_result, order_result, straight_result, retrace_result, check_result, write_result, read_result};
+ghost use Rattle.results.specs.Results.{told, distance_result, start_result, order_result, straight_result, retrace_result, check_result, write_result, read_result};
 ghost use Rattle.results.specs.Refusals.{PlaceOf32};
 
-use file_format::{ReadAnswer, WriteAnswer};
-use rules::{
-    CheckAnswer, DistanceAnswer, OrderAnswer, Refusal, RetraceAnswer, StartAnswer, StraightAnswer,
-};
+use rules::{Counts, Refusal};
 
 // The paper's number and place of a refusal; 12 has a place of 64 bits, and is none of these.
-#[derive(Clone, Copy)]
-struct RefusalNumbers {
-    number: u32,
-    place: u32,
-}
-
-fn numbers_of(r: Refusal) -> RefusalNumbers
+#[tactic(auto, unfolding(rules::specs::HandedOver::number_of, rules::specs::HandedOver::place_of, rules::specs::HandedOver::refusal))]
+fn numbers_of(r: Refusal) -> (u32, u32)
     requires { PlaceOf32 r }
-    ensures { refusal {A = ℕ} r ≡ refuses result.number result.place }
+    ensures { refusal {A = ℕ} r ≡ refuses result.0 result.1 }
 {
     match r {
-        Refusal::TooManyContours => RefusalNumbers {
-            number: 1,
-            place: 0,
-        },
-        Refusal::TooManyPoints => RefusalNumbers {
-            number: 2,
-            place: 0,
-        },
-        Refusal::Miscounted => RefusalNumbers {
-            number: 3,
-            place: 0,
-        },
-        Refusal::OffThePlate(place) => RefusalNumbers { number: 4, place },
-        Refusal::WorkShort(place) => RefusalNumbers { number: 5, place },
-        Refusal::Full(place) => RefusalNumbers { number: 6, place },
-        Refusal::Blank => RefusalNumbers {
-            number: 7,
-            place: 0,
-        },
-        Refusal::BlockDamaged(place) => RefusalNumbers { number: 8, place },
-        Refusal::WrongEnd(place) => RefusalNumbers { number: 9, place },
-        Refusal::NotDrawn(_) => RefusalNumbers {
-            number: 12,
-            place: 0,
-        },
-        Refusal::BadLayer(place) => RefusalNumbers { number: 13, place },
+        Refusal::TooManyContours => (1, 0),
+        Refusal::TooManyPoints => (2, 0),
+        Refusal::Miscounted => (3, 0),
+        Refusal::OffThePlate(place) => (4, place),
+        Refusal::WorkShort(place) => (5, place),
+        Refusal::Full(place) => (6, place),
+        Refusal::Blank => (7, 0),
+        Refusal::BlockDamaged(place) => (8, place),
+        Refusal::WrongEnd(place) => (9, place),
+        Refusal::NotDrawn(_) => unreachable!(),
+        Refusal::BadLayer(place) => (13, place),
+    }
+}
+
+// The number and place of an answer, and what it carries: of a refusal, `zeros`. (No `From` below: it can require nothing, and `check_result` is as the others.)
+fn told<T: Copy>(answer: Result<T, Refusal>, zeros: T) -> (u32, u32, T)
+    requires { Other 12 (answer_of answer) }
+    ensures { result ≡ told (answer_of answer) zeros }
+{
+    match answer {
+        Ok(value) => (0, 0, value),
+        Err(r) => {
+            let (number, place) = numbers_of(r);
+            (number, place, zeros)
+        }
     }
 }
 
@@ -63,26 +53,16 @@ pub struct DistanceResult {
     pub plain: f64,
 }
 
-pub fn distance_result(answer: DistanceAnswer) -> DistanceResult
-    requires { Other 12 (distance_answer answer) }
-    ensures { result ≡ distance_result (distance_answer answer) }
+pub fn distance_result(answer: Result<(f64, f64), Refusal>) -> DistanceResult
+    requires { Other 12 (answer_of answer) }
+    ensures { result ≡ distance_result (answer_of answer) }
 {
-    match answer {
-        DistanceAnswer::Distances(squared, plain) => DistanceResult {
-            number: 0,
-            place: 0,
-            squared,
-            plain,
-        },
-        DistanceAnswer::NoDistances(r) => {
-            let n = numbers_of(r);
-            DistanceResult {
-                number: n.number,
-                place: n.place,
-                squared: 0.0,
-                plain: 0.0,
-            }
-        }
+    let (number, place, (squared, plain)) = told(answer, (0.0, 0.0));
+    DistanceResult {
+        number,
+        place,
+        squared,
+        plain,
     }
 }
 
@@ -95,29 +75,20 @@ pub struct StartResult {
     pub reversed: u32,
 }
 
-pub fn start_result(answer: StartAnswer) -> StartResult
-    requires { Other 12 (start_answer answer) }
-    ensures { result ≡ start_result (start_answer answer) }
+pub fn start_result(answer: Result<(u32, bool), Refusal>) -> StartResult
+    requires { Other 12 (answer_of answer) }
+    ensures { result ≡ start_result (answer_of answer) }
 {
-    match answer {
-        StartAnswer::Start(contour, reversed) => StartResult {
-            number: 0,
-            place: 0,
-            contour,
-            reversed: reversed as u32,
-        },
-        StartAnswer::NoStart(r) => {
-            let n = numbers_of(r);
-            StartResult {
-                number: n.number,
-                place: n.place,
-                contour: 0,
-                reversed: 0,
-            }
-        }
+    let (number, place, (contour, reversed)) = told(answer, (0, false));
+    StartResult {
+        number,
+        place,
+        contour,
+        reversed: reversed as u32,
     }
 }
 
+// The four structs of one number, here and below, are as C names them.
 #[repr(C)]
 #[derive(Clone, Copy)]
 pub struct OrderResult {
@@ -126,24 +97,16 @@ pub struct OrderResult {
     pub entries: u32,
 }
 
-pub fn order_result(answer: OrderAnswer) -> OrderResult
-    requires { Other 12 (order_answer answer) }
-    ensures { result ≡ order_result (order_answer answer) }
+#[tactic(auto, using(crate::proofs::Tellings::order_told))]
+pub fn order_result(answer: Result<u32, Refusal>) -> OrderResult
+    requires { Other 12 (answer_of answer) }
+    ensures { result ≡ order_result (answer_of answer) }
 {
-    match answer {
-        OrderAnswer::Entries(entries) => OrderResult {
-            number: 0,
-            place: 0,
-            entries,
-        },
-        OrderAnswer::NoOrder(r) => {
-            let n = numbers_of(r);
-            OrderResult {
-                number: n.number,
-                place: n.place,
-                entries: 0,
-            }
-        }
+    let (number, place, entries) = told(answer, 0);
+    OrderResult {
+        number,
+        place,
+        entries,
     }
 }
 
@@ -155,24 +118,16 @@ pub struct StraightResult {
     pub points: u32,
 }
 
-pub fn straight_result(answer: StraightAnswer) -> StraightResult
-    requires { Other 12 (straight_answer answer) }
-    ensures { result ≡ straight_result (straight_answer answer) }
+#[tactic(auto, using(crate::proofs::Tellings::straight_told))]
+pub fn straight_result(answer: Result<u32, Refusal>) -> StraightResult
+    requires { Other 12 (answer_of answer) }
+    ensures { result ≡ straight_result (answer_of answer) }
 {
-    match answer {
-        StraightAnswer::Points(count) => StraightResult {
-            number: 0,
-            place: 0,
-            points: count,
-        },
-        StraightAnswer::NoStraight(r) => {
-            let n = numbers_of(r);
-            StraightResult {
-                number: n.number,
-                place: n.place,
-                points: 0,
-            }
-        }
+    let (number, place, count) = told(answer, 0);
+    StraightResult {
+        number,
+        place,
+        points: count,
     }
 }
 
@@ -188,32 +143,28 @@ pub struct RetraceResult {
     pub touches: u32,
 }
 
-pub fn retrace_result(answer: RetraceAnswer) -> RetraceResult
-    requires { Other 12 (retrace_answer answer) }
-    ensures { result ≡ retrace_result (retrace_answer answer) }
+const NO_COUNTS: Counts = Counts {
+    points: 0,
+    cuts: 0,
+    back_steps: 0,
+    jumps: 0,
+    touches: 0,
+};
+
+#[tactic(auto, using(crate::proofs::Tellings::retrace_told))]
+pub fn retrace_result(answer: Result<Counts, Refusal>) -> RetraceResult
+    requires { Other 12 (answer_of answer) }
+    ensures { result ≡ retrace_result (answer_of answer) }
 {
-    match answer {
-        RetraceAnswer::Joined(counts) => RetraceResult {
-            number: 0,
-            place: 0,
-            points: counts.points,
-            cuts: counts.cuts,
-            back_steps: counts.back_steps,
-            jumps: counts.jumps,
-            touches: counts.touches,
-        },
-        RetraceAnswer::NotJoined(r) => {
-            let n = numbers_of(r);
-            RetraceResult {
-                number: n.number,
-                place: n.place,
-                points: 0,
-                cuts: 0,
-                back_steps: 0,
-                jumps: 0,
-                touches: 0,
-            }
-        }
+    let (number, place, counts) = told(answer, NO_COUNTS);
+    RetraceResult {
+        number,
+        place,
+        points: counts.points,
+        cuts: counts.cuts,
+        back_steps: counts.back_steps,
+        jumps: counts.jumps,
+        touches: counts.touches,
     }
 }
 
@@ -224,28 +175,22 @@ pub struct CheckResult {
     pub place: u64,
 }
 
-fn refused_check(r: Refusal) -> CheckResult
-    ensures { result ≡ check_result (refusal r) }
-{
-    if let Refusal::NotDrawn(place) = r {
-        return CheckResult { number: 12, place };
-    }
-    let n = numbers_of(r);
-    CheckResult {
-        number: n.number,
-        place: n.place as u64,
-    }
-}
-
-pub fn check_result(answer: CheckAnswer) -> CheckResult
-    ensures { result ≡ check_result (check_answer answer) }
+pub fn check_result(answer: Result<(), Refusal>) -> CheckResult
+    ensures { result ≡ check_result (answer_of answer) }
 {
     match answer {
-        CheckAnswer::Accepted => CheckResult {
+        Ok(()) => CheckResult {
             number: 0,
             place: 0,
         },
-        CheckAnswer::NotAccepted(r) => refused_check(r),
+        Err(Refusal::NotDrawn(place)) => CheckResult { number: 12, place },
+        Err(r) => {
+            let (number, place) = numbers_of(r);
+            CheckResult {
+                number,
+                place: place as u64,
+            }
+        }
     }
 }
 
@@ -257,24 +202,16 @@ pub struct WriteFileResult {
     pub bytes: u32,
 }
 
-pub fn write_result(answer: WriteAnswer) -> WriteFileResult
-    requires { Other 12 (write_answer answer) }
-    ensures { result ≡ write_result (write_answer answer) }
+#[tactic(auto, using(crate::proofs::Tellings::write_told))]
+pub fn write_result(answer: Result<u32, Refusal>) -> WriteFileResult
+    requires { Other 12 (answer_of answer) }
+    ensures { result ≡ write_result (answer_of answer) }
 {
-    match answer {
-        WriteAnswer::Written(bytes) => WriteFileResult {
-            number: 0,
-            place: 0,
-            bytes,
-        },
-        WriteAnswer::NotWritten(r) => {
-            let n = numbers_of(r);
-            WriteFileResult {
-                number: n.number,
-                place: n.place,
-                bytes: 0,
-            }
-        }
+    let (number, place, bytes) = told(answer, 0);
+    WriteFileResult {
+        number,
+        place,
+        bytes,
     }
 }
 
@@ -286,23 +223,15 @@ pub struct ReadFileResult {
     pub points: u32,
 }
 
-pub fn read_result(answer: ReadAnswer) -> ReadFileResult
-    requires { Other 12 (read_answer answer) }
-    ensures { result ≡ read_result (read_answer answer) }
+#[tactic(auto, using(crate::proofs::Tellings::read_told))]
+pub fn read_result(answer: Result<u32, Refusal>) -> ReadFileResult
+    requires { Other 12 (answer_of answer) }
+    ensures { result ≡ read_result (answer_of answer) }
 {
-    match answer {
-        ReadAnswer::Read(points) => ReadFileResult {
-            number: 0,
-            place: 0,
-            points,
-        },
-        ReadAnswer::NotRead(r) => {
-            let n = numbers_of(r);
-            ReadFileResult {
-                number: n.number,
-                place: n.place,
-                points: 0,
-            }
-        }
+    let (number, place, points) = told(answer, 0);
+    ReadFileResult {
+        number,
+        place,
+        points,
     }
 }

@@ -1,67 +1,62 @@
--- Marks counted pair by pair. Assumes nothing.
-use mathlib.Core.Path.{◌≡◌, refl, sym}
+-- Marks counted one by one. Assumes nothing.
+use mathlib.Core.Path.{◌≡◌, refl, ap}
 use mathlib.Core.Bool.{Bool, true, false}
-use mathlib.Core.List.{List, [], ◌∷◌}
-use Prim.Native.Nat.{ℕ, zero, suc, ◌+◌, ◌*◌, ◌≤◌, ◌<◌}
+use mathlib.Core.List.{List, [], ◌∷◌, ◌++◌}
+use Prim.Native.Nat.{ℕ, ◌+◌, ◌*◌, ◌≤◌, ◌<◌}
 use native.Mathlib.Omega.{arith}
 use lib.Dec.{eqb}
-use lib.ListN.{length, get_or, take}
+use mir.Val.{bool_byte}
+use lib.ListN.{length, get_or, length-append}
 use Rattle.rules.specs.Tools.{pick}
 use Rattle.rules.specs.RetraceAndMarks.{count_marks, marks_of}
 
-twice : (i : ℕ) → 2 * suc i ≡ suc (suc (2 * i))
-twice i = omega arith
-
-count_cons : (test : ℕ → ℕ → Bool) (a b : ℕ) (ms : List ℕ) → count_marks test (a ∷ b ∷ ms) ≡ pick (test a b) 1 0 + count_marks test ms
-unfolding count_marks
-count_cons test a b ms = refl
-
-count_none : (test : ℕ → ℕ → Bool) → count_marks test [] ≡ 0
-unfolding count_marks
-count_none test = refl
-
-more : (test : ℕ → ℕ → Bool) (i : ℕ) (ms : List ℕ) → 2 * i + 1 < length ms →
-    count_marks test (take (2 * suc i) ms) ≡ count_marks test (take (2 * i) ms) + pick (test (get_or ms (2 * i) 0) (get_or ms (2 * i + 1) 0)) 1 0
-more test i [] h = absurd (omega arith)
-more test i (a ∷ []) h = absurd (omega arith)
-more test zero (a ∷ b ∷ ms) h = omega (arith, count_cons test a b [], count_none test)
-more test (suc i) (a ∷ b ∷ ms) h =
-    let left : count_marks test (take (2 * suc (suc i)) (a ∷ b ∷ ms)) ≡ pick (test a b) 1 0 + count_marks test (take (2 * suc i) ms) =
-    rw (twice (suc i)) (count_cons test a b (take (2 * suc i) ms)) in
-    let right : count_marks test (take (2 * suc i) (a ∷ b ∷ ms)) ≡ pick (test a b) 1 0 + count_marks test (take (2 * i) ms) =
-    rw (twice i) (count_cons test a b (take (2 * i) ms)) in
-    let kind : get_or (a ∷ b ∷ ms) (2 * suc i) 0 ≡ get_or ms (2 * i) 0 = rw (twice i) in
-    let f : 2 * suc i + 1 ≡ suc (suc (2 * i + 1)) = omega arith in
-    let reference : get_or (a ∷ b ∷ ms) (2 * suc i + 1) 0 ≡ get_or ms (2 * i + 1) 0 = rw f in
-    rw (left, right, kind, reference) (omega (arith, more test i ms (omega arith)))
-
--- one more path point
-marks_more : (kind i : ℕ) (ms : List ℕ) → 2 * i + 1 < length ms →
-    marks_of kind (take (2 * (i + 1)) ms) ≡ marks_of kind (take (2 * i) ms) + pick (eqb (get_or ms (2 * i) 0) kind) 1 0
-unfolding marks_of
-marks_more kind i ms h = let e : 2 * (i + 1) ≡ 2 * suc i = omega arith in rw e (more (λ k r. eqb k kind) i ms h)
-
-marks_none : (kind : ℕ) (ms : List ℕ) → marks_of kind (take (2 * 0) ms) ≡ 0
+-- a mark, and those behind it
+marks_cons : (kind a b : ℕ) (ms : List ℕ) → marks_of kind (a ∷ b ∷ ms) ≡ pick (eqb a kind) 1 0 + marks_of kind ms
 unfolding marks_of count_marks
-marks_none kind ms = refl
+marks_cons kind a b ms = refl
 
-pub one_most : (r : ℕ) (b : Bool) → r ≡ pick b 1 0 → r ≤ 1
+marks_pair : (kind : ℕ) (mark ms : List ℕ) → length mark ≡ 2 → marks_of kind (mark ++ ms) ≡ pick (eqb (get_or mark 0 0) kind) 1 0 + marks_of kind ms
+marks_pair kind [] ms h = absurd (omega arith)
+marks_pair kind (a ∷ []) ms h = absurd (omega arith)
+marks_pair kind (a ∷ b ∷ []) ms h = marks_cons kind a b ms
+marks_pair kind (a ∷ b ∷ x ∷ xs) ms h = absurd (omega arith)
+
+marks_short : (kind : ℕ) (ms : List ℕ) → length ms < 2 → marks_of kind ms ≡ 0
+unfolding marks_of count_marks
+marks_short kind [] h = refl
+marks_short kind (a ∷ []) h = refl
+marks_short kind (a ∷ b ∷ ms) h = absurd (omega arith)
+
+one_most : (b : Bool) → pick b 1 0 ≤ 1
 unfolding pick
-one_most r true e = omega arith
-one_most r false e = omega arith
+one_most true = omega arith
+one_most false = omega arith
 
--- the marks of a kind among the first i points
-pub record Counted (kind : ℕ) (ms : List ℕ) (i count : ℕ) : Type 0 where
-  pub is : count ≡ marks_of kind (take (2 * i) ms)
-  pub most : count ≤ i
+-- what a test's number is
+pub one_is : (b : Bool) → bool_byte b ≡ pick b 1 0
+unfolding pick
+one_is true = refl
+one_is false = refl
 
-pub counted_none : (kind : ℕ) (ms : List ℕ) → Counted kind ms 0 0
-counted_none kind ms = record { is = sym (marks_none kind ms); most = omega arith }
+-- of a kind so many marks were counted among ms, and those of `left` are to come
+pub record Counted (kind : ℕ) (ms left : List ℕ) (count : ℕ) : Type 0 where
+  pub is : marks_of kind ms ≡ count + marks_of kind left
+  pub most : 2 * count + length left ≤ length ms
 
-pub counted_more : (kind : ℕ) (ms : List ℕ) (i count one : ℕ) → 2 * i + 1 < length ms → Counted kind ms i count →
-    one ≡ pick (eqb (get_or ms (2 * i) 0) kind) 1 0 → Counted kind ms (i + 1) (count + one)
-counted_more kind ms i count one l h e =
-    record {
-      is = omega (arith, h.is, e, marks_more kind i ms l);
-      most = omega (arith, h.most, one_most one (eqb (get_or ms (2 * i) 0) kind) e);
-    }
+pub counted_none : (kind : ℕ) (ms left : List ℕ) → left ≡ ms → Counted kind ms left 0
+counted_none kind ms left e = rw e (record { is = omega arith; most = omega arith })
+
+module _ (kind : ℕ) (ms left mark left' : List ℕ) (count one : ℕ) (e : left ≡ mark ++ left') (n : length mark ≡ 2) (h : Counted kind ms left count)
+    (is_one : one ≡ pick (eqb (get_or mark 0 0) kind) 1 0) where
+  pub counted_fits : 2 * (count + one) ≤ length ms
+  counted_fits = omega (arith, h.most, one_most (eqb (get_or mark 0 0) kind), ap length e, length-append mark left')
+
+  pub counted_more : Counted kind ms left' (count + one)
+  counted_more =
+      record {
+        is = omega (arith, h.is, ap (marks_of kind) e, marks_pair kind mark left' n);
+        most = omega (arith, h.most, one_most (eqb (get_or mark 0 0) kind), ap length e, length-append mark left');
+      }
+
+pub counted_all : (kind : ℕ) (ms left : List ℕ) (count : ℕ) → Counted kind ms left count → length left < 2 → count ≡ marks_of kind ms
+counted_all kind ms left count h l = omega (arith, h.is, marks_short kind left l)

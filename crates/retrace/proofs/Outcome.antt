@@ -1,14 +1,14 @@
 -- The answer and the slices of the retrace call, by the way that it takes: refused by the checks, short of work, full, or whole. Assumes nothing.
-use mathlib.Core.Path.{◌≡◌, refl, sym, ap, ◌∙◌}
+use mathlib.Core.Path.{◌≡◌, refl, sym, ap, subst, ◌∙◌}
 use mathlib.Core.List.{List, [], ◌∷◌}
 use Prim.Native.Nat.{ℕ, zero, suc, ◌*◌, ◌≤◌, ◌<◌}
 use native.Mathlib.Omega.{arith}
 use lib.Ieee.{Float}
 use lib.ListN.{length, take}
 use lib.Seq.{take_all, take_at}
-use borrow.Author.Tests.{lt-ltb, le-ltb}
+use borrow.Author.Tests.{lt-ltb, le-ltb, ne_eqb}
 use Rattle.rules.specs.Tools.{pick}
-use Rattle.rules.specs.HandedOver.{AllF64, Plate, plate, Answer, gives, refuses, refusal, RefusalRow, refused_by, work_short, full, plate_rows, retrace_work, retrace_rows, over, after, retrace_room, frees_work, WorkKept}
+use Rattle.rules.specs.HandedOver.{AllF64, Plate, plate, Answer, gives, refuses, refusal, number_of, RefusalRow, refused_by, work_short, full, plate_rows, retrace_work, retrace_rows, over, after, retrace_room, frees_work, WorkKept}
 use Rattle.rules.specs.RetraceAndMarks.{cut_kind, back_step_kind, jump_kind, touch_kind, Step, coordinates, marks, marks_of, retrace}
 use Rattle.rules.specs.Calls.{counts, vertices, retrace_call}
 use Rattle.rules.specs.declared.Counts.{Counts}
@@ -17,7 +17,7 @@ use Rattle.rules.specs.declared.StartPointStrategy.{StartPointStrategy}
 use Rattle.statement.specs.PathStatement.{contour_count, Divides, PathStatement, NeverFall, LayerStatement}
 use Rattle.rules.specs.Box.{box}
 use Rattle.statement.specs.HowNear.{LandingsNear, written_points, HowNear}
-use Rattle.path.specs.Rows.{rows_give, rows_pass, rows_append, refusal_refuses}
+use Rattle.path.specs.Rows.{Other, rows_give, rows_lack, rows_pass, rows_append, refusal_refuses}
 use Rattle.path.specs.Accepted.{input_lacks}
 use Rattle.path.specs.Slices.{marks_length}
 use Rattle.path.specs.Theorem.{path_statement}
@@ -67,6 +67,23 @@ whole xs ns ls width height s f64 path ms work ds a path' ms' work' ds' m =
       divides p path ms (length work) (length ds) a path' ms' m.0 m.1 m.2,
       near p path ms (length work) (length ds) a path' ms' f64 refl m.0 m.1 m.2,
     )
+
+-- a refusal other than 6 has written nothing
+near_none : (n k : ℕ) (path' : List Float) (ms' : List ℕ) → (n ≡ 6 → ⊥) → WrittenNear (refuses n k) path' ms'
+unfolding LandingsNear written_points pick
+near_none n k path' ms' other = rw (ne_eqb n 6 other) (λ j l. absurd (omega arith))
+
+pub whole_refused : (p : Plate) (path : List Float) (ms work : List ℕ) (ds : List Float) (n k : ℕ) (path' : List Float) (ms' work' : List ℕ) (ds' : List Float) →
+    (n ≡ 6 → ⊥) → Met p path ms work ds (refuses n k) path' ms' work' ds' →
+    Met p path ms work ds (refuses n k) path' ms' work' ds' × Divided p (refuses n k) path' ms' × WrittenNear (refuses n k) path' ms'
+whole_refused p path ms work ds n k path' ms' work' ds' other m =
+    (m, divides p path ms (length work) (length ds) (refuses n k) path' ms' m.0 m.1 m.2, near_none n k path' ms' other)
+
+-- what the checks refuse is another
+pub not_full : (p : Plate) (r : Refusal) (m : ℕ) → refusal r ≡ refused_by (plate_rows p) (gives m) → number_of r ≡ 6 → ⊥
+unfolding refusal
+not_full p r m h =
+    subst {A = Answer ℕ} (Other 6) (sym h) (rows_lack 6 (plate_rows p) (gives m) (input_lacks p.points p.lengths p.layers p.strategy).0 tt)
 
 -- ---- as many as there is room for
 

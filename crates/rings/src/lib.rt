@@ -1,12 +1,11 @@
 // The rings of cells around a cell: a ring's square, clipped to the grid, how its border is passed along a row, and its bound.
 #![tactic(auto)]
 
-ghost use Rattle.std.specs.Prelude.{◌≡◌, ◌-◌, ◌≤◌, ◌<◌, min, max};
+ghost use Rattle.std.specs.Prelude.{◌≡◌, ◌≤◌, ◌<◌};
 ghost use Rattle.rules.specs.GridAndNearest as rules-nearest;
-ghost use Rattle.grid.specs.Sane.{Sane};
 ghost use Rattle.rings.specs.Squares.{square_of, Inside, column_step};
 
-use grid::Cell;
+use grid::{Cell, Grid};
 use rules::{Nearest, SpatialGrid};
 
 #[derive(Clone, Copy)]
@@ -17,34 +16,15 @@ pub struct Square {
     pub last_row: u32,
 }
 
-fn least(a: u32, b: u32) -> u32
-    ensures { result ≡ min a b }
-{
-    if a < b { a } else { b }
-}
-
-pub fn most(a: u32, b: u32) -> u32
-    ensures { result ≡ max a b }
-{
-    if a < b { b } else { a }
-}
-
-// Not below 0.
-fn minus(a: u32, b: u32) -> u32
-    ensures { result ≡ a - b }
-{
-    if a < b { 0 } else { a - b }
-}
-
-pub fn square_of(g: SpatialGrid, c: Cell, ring: u32) -> Square
-    requires { (Sane g) × (c.col < g.cols) × (c.row < g.rows) × (ring ≤ 54) }
-    ensures { (square_of result ≡ rules-nearest.square g (record { col = c.col; row = c.row }) ring) × (Inside g result) }
+pub fn square_of(g: Grid, c: Cell, ring: u32) -> Square
+    requires { (c.col < g.spatial.cols) × (c.row < g.spatial.rows) × (ring ≤ 54) }
+    ensures { (square_of result ≡ rules-nearest.square g.spatial (record { col = c.col; row = c.row }) ring) × (Inside g.spatial result) }
 {
     Square {
-        first_col: minus(c.col, ring),
-        last_col: least(c.col + ring, g.cols - 1),
-        first_row: minus(c.row, ring),
-        last_row: least(c.row + ring, g.rows - 1),
+        first_col: c.col.saturating_sub(ring),
+        last_col: (c.col + ring).min(g.spatial.cols - 1),
+        first_row: c.row.saturating_sub(ring),
+        last_row: (c.row + ring).min(g.spatial.rows - 1),
     }
 }
 
@@ -53,13 +33,11 @@ pub fn column_step(s: Square, row: u32) -> u32
     requires { s.first_col ≤ s.last_col }
     ensures { result ≡ column_step (square_of s) row }
 {
-    if row == s.first_row {
-        return 1;
+    if row == s.first_row || row == s.last_row {
+        1
+    } else {
+        (s.last_col - s.first_col).max(1)
     }
-    if row == s.last_row {
-        return 1;
-    }
-    most(s.last_col - s.first_col, 1)
 }
 
 // A ring's bound: the squared length of ring - 1 cells.

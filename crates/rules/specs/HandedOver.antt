@@ -1,6 +1,6 @@
 -- "What is handed over" of document 01, with what document 02 adds to it: points and contours, and the refusals that calls share, with their order and
 -- their places. Definitions only.
-use Rattle.std.specs.Prelude.{◌≡◌, ℕ, zero, suc, ◌+◌, ◌*◌, ◌/◌, min, ◌<◌, Bool, false, not, ◌&&◌, ◌||◌, List, [], ◌∷◌, ◌++◌, T, leb, ltb, eqb, length, take, drop, get_or, pos, Float}
+use Rattle.std.specs.Prelude.{◌≡◌, ℕ, zero, suc, ◌+◌, ◌*◌, ◌/◌, min, ◌<◌, Bool, false, not, ◌&&◌, ◌||◌, List, [], ◌∷◌, ◌++◌, T, leb, ltb, eqb, length, take, drop, get_or, pos, Float, Result, Ok, Err}
 use Rattle.std.specs.Float.{nan, fin, binary64}
 use Rattle.std.specs.Float.Ieee.{fits, neg, le}
 use Rattle.rules.specs.Tools.{pick, sum, highest_layer}
@@ -9,21 +9,9 @@ use Rattle.rules.specs.declared.Point.{Point}
 use Rattle.rules.specs.declared.BoundingBox.{BoundingBox}
 use Rattle.rules.specs.declared.StartPointStrategy.{StartPointStrategy}
 use Rattle.rules.specs.declared.StartPointStrategy.TheVariants.{Outside, Inside, Home}
-use Rattle.rules.specs.declared.Counts.{Counts}
 use Rattle.rules.specs.declared.Refusal.{Refusal}
 use Rattle.rules.specs.declared.Refusal.TheVariants.{TooManyContours, TooManyPoints, Miscounted, OffThePlate, WorkShort, Full, Blank, BlockDamaged, WrongEnd, NotDrawn, BadLayer}
-use Rattle.rules.specs.declared.DistanceAnswer.{DistanceAnswer}
-use Rattle.rules.specs.declared.DistanceAnswer.TheVariants.{Distances, NoDistances}
-use Rattle.rules.specs.declared.StartAnswer.{StartAnswer}
-use Rattle.rules.specs.declared.StartAnswer.TheVariants.{Start, NoStart}
-use Rattle.rules.specs.declared.OrderAnswer.{OrderAnswer}
-use Rattle.rules.specs.declared.OrderAnswer.TheVariants.{Entries, NoOrder}
-use Rattle.rules.specs.declared.StraightAnswer.{StraightAnswer}
-use Rattle.rules.specs.declared.StraightAnswer.TheVariants.{Points, NoStraight}
-use Rattle.rules.specs.declared.RetraceAnswer.{RetraceAnswer}
-use Rattle.rules.specs.declared.RetraceAnswer.TheVariants.{Joined, NotJoined}
-use Rattle.rules.specs.declared.CheckAnswer.{CheckAnswer}
-use Rattle.rules.specs.declared.CheckAnswer.TheVariants.{Accepted, NotAccepted}
+use Rattle.rules.specs.declared.Input.{Input}
 
 -- ---- points and contours
 
@@ -51,6 +39,10 @@ pub record Plate : Type 0 where
 -- the plate's box is that of its points
 unfoldable pub plate : List Float → List ℕ → List ℕ → ℕ → ℕ → StartPointStrategy → Plate
 plate xs ns ls w h s = record { points = xs; lengths = ns; layers = ls; width = w; height = h; strategy = s; box = box xs }
+
+-- of what a call is handed
+abbrev pub plate_of : Input → Plate
+plate_of i = plate i.points.now i.lengths.now i.layers.now i.width i.height i.strategy
 
 -- of a carriage that is parked at (x, y): with Home the size does not count
 unfoldable pub parked_plate : List Float → List ℕ → List ℕ → Float → Float → Plate
@@ -139,30 +131,10 @@ place_of (BadLayer place) = place
 unfoldable pub refusal : {A : Type 0} → Refusal → Answer A
 refusal r = refuses (number_of r) (place_of r)
 
--- the paper's values for each case of an answer
-unfoldable pub distance_answer : DistanceAnswer → Answer (Float × Float)
-distance_answer (Distances squared plain) = gives (squared, plain)
-distance_answer (NoDistances r) = refusal r
-
-unfoldable pub start_answer : StartAnswer → Answer (ℕ × Bool)
-start_answer (Start contour reversed) = gives (contour, reversed)
-start_answer (NoStart r) = refusal r
-
-unfoldable pub order_answer : OrderAnswer → Answer ℕ
-order_answer (Entries n) = gives n
-order_answer (NoOrder r) = refusal r
-
-unfoldable pub straight_answer : StraightAnswer → Answer ℕ
-straight_answer (Points n) = gives n
-straight_answer (NoStraight r) = refusal r
-
-unfoldable pub retrace_answer : RetraceAnswer → Answer Counts
-retrace_answer (Joined c) = gives c
-retrace_answer (NotJoined r) = refusal r
-
-unfoldable pub check_answer : CheckAnswer → Answer (Unit {0})
-check_answer Accepted = gives tt
-check_answer (NotAccepted r) = refusal r
+-- the paper's values for each case of an answer of the code
+unfoldable pub answer_of : {A : Type 0} → Result A Refusal → Answer A
+answer_of (Ok a) = gives a
+answer_of (Err r) = refusal r
 
 -- ---- conditions
 

@@ -9,5 +9,6 @@ pub mod SamplesAndCache
 pub mod RetraceAndMarks
 pub mod OrderAndStraight
 pub mod Calls
+pub mod Marks
 pub mod MarkedPlates
 pub mod FreedWork

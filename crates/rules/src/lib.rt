@@ -1,6 +1,10 @@
 // The declared types and constants of the documents. Their definitions, in specs/, count path places and vertex numbers in ℕ.
 #![tactic(auto)]
 
+ghost use Rattle.std.specs.Prelude.{◌≡◌, ◌+◌, ◌*◌, ◌<◌, ◌≤◌, ◌↔◌, length, IsSome, IfSome};
+ghost use Rattle.rules.specs.HandedOver.{at};
+ghost use Rattle.rules.specs.Marks.{kind_of, reference_of};
+
 // Home carries the parked point.
 #[derive(Clone, Copy)]
 pub enum StartPointStrategy {
@@ -9,7 +13,8 @@ pub enum StartPointStrategy {
     Home(Point),
 }
 
-#[derive(Clone, Copy)]
+// Two points are equal (`==`) where their coordinates are as numbers: 0 and −0 are.
+#[derive(Clone, Copy, PartialEq)]
 pub struct Point {
     pub x: f64,
     pub y: f64,
@@ -35,10 +40,10 @@ pub struct SpatialGrid {
 }
 
 // A place of the path, and the number of a vertex: neither is accepted for the other.
-#[derive(Clone, Copy)]
+#[derive(Clone, Copy, PartialEq, Eq, PartialOrd, Ord)]
 pub struct PathPlace(pub u32);
 
-#[derive(Clone, Copy)]
+#[derive(Clone, Copy, PartialEq, Eq, PartialOrd, Ord)]
 pub struct Vertex(pub u32);
 
 // What the nearest query answers: a path place and a squared distance, or nothing.
@@ -49,7 +54,7 @@ pub enum Nearest {
 }
 
 // Why a call is refused. A number is the refusal's place; without one the place is 0.
-#[derive(Clone, Copy)]
+#[derive(Clone, Copy, PartialEq, Eq)]
 pub enum Refusal {
     TooManyContours,
     TooManyPoints,
@@ -70,7 +75,7 @@ pub const MOST_PATH_POINTS: usize = 1048576;
 // Layers are 0 to this.
 pub const HIGHEST_LAYER: u32 = 15;
 
-// The kinds of marks.
+// The kinds of marks, by their numbers.
 pub const START: u32 = 0;
 
 pub const CUT: u32 = 1;
@@ -81,32 +86,94 @@ pub const JUMP: u32 = 3;
 
 pub const TOUCH: u32 = 4;
 
-// Squared and plain distance.
-#[derive(Clone, Copy)]
-pub enum DistanceAnswer {
-    Distances(f64, f64),
-    NoDistances(Refusal),
+// A path point's mark. A start, a jump and a touch name the vertex landed on, a cut the lower vertex of its segment, a back-step the path place
+// that it leads to.
+#[derive(Clone, Copy, PartialEq, Eq)]
+pub enum Mark {
+    Start(Vertex),
+    Cut(Vertex),
+    BackStep(PathPlace),
+    Jump(Vertex),
+    Touch(Vertex),
 }
 
-// The contour's number, and whether it is reversed.
-#[derive(Clone, Copy)]
-pub enum StartAnswer {
-    Start(u32, bool),
-    NoStart(Refusal),
+impl Mark {
+    pub fn kind(self) -> u32
+        ensures { result ≡ kind_of self }
+    {
+        match self {
+            Mark::Start(_) => START,
+            Mark::Cut(_) => CUT,
+            Mark::BackStep(_) => BACK_STEP,
+            Mark::Jump(_) => JUMP,
+            Mark::Touch(_) => TOUCH,
+        }
+    }
+
+    pub fn reference(self) -> u32
+        ensures { result ≡ reference_of self }
+    {
+        match self {
+            Mark::Start(v) => v.0,
+            Mark::Cut(v) => v.0,
+            Mark::BackStep(k) => k.0,
+            Mark::Jump(v) => v.0,
+            Mark::Touch(v) => v.0,
+        }
+    }
+
+    // The mark of a kind and a reference, where there is one.
+    pub fn from_numbers(kind: u32, reference: u32) -> Option<Mark>
+        ensures known { IsSome result ↔ (kind ≤ 4) }
+        ensures numbers { IfSome result (λ m. (kind_of m ≡ kind) × (reference_of m ≡ reference)) }
+    {
+        match kind {
+            START => Some(Mark::Start(Vertex(reference))),
+            CUT => Some(Mark::Cut(Vertex(reference))),
+            BACK_STEP => Some(Mark::BackStep(PathPlace(reference))),
+            JUMP => Some(Mark::Jump(Vertex(reference))),
+            TOUCH => Some(Mark::Touch(Vertex(reference))),
+            _ => None,
+        }
+    }
 }
 
-// How many entries the order has.
+// What is handed over to a call: points, horizontal then vertical; the contours' lengths and layers; the plate's size, and where the path starts.
 #[derive(Clone, Copy)]
-pub enum OrderAnswer {
-    Entries(u32),
-    NoOrder(Refusal),
+pub struct Input<'a> {
+    pub points: &'a [f64],
+    pub lengths: &'a [u32],
+    pub layers: &'a [u32],
+    pub width: u32,
+    pub height: u32,
+    pub strategy: StartPointStrategy,
 }
 
-// How many points the path has.
-#[derive(Clone, Copy)]
-pub enum StraightAnswer {
-    Points(u32),
-    NoStraight(Refusal),
+// Point i of a slice of points.
+pub fn point_in(xs: &[f64], i: usize) -> Point
+    requires { 2 * i + 1 < length xs.now }
+    ensures { result ≡ at xs.now i }
+{
+    Point {
+        x: xs[2 * i],
+        y: xs[2 * i + 1],
+    }
+}
+
+// The point of a vertex.
+pub fn point_at(points: &[f64], v: Vertex) -> Point
+    requires { 2 * v.0 + 1 < length points.now }
+    ensures { result ≡ at points.now v.0 }
+{
+    point_in(points, v.0 as usize)
+}
+
+// The path point at a place.
+pub fn path_point(path: &[f64], place: PathPlace) -> Point
+    requires { 2 * place.0 + 1 < length path.now }
+    ensures { result ≡ at path.now place.0 }
+{
+    point_in(path, place.0 as usize)
 }
 
 // Path points, cuts, back-steps, jumps and touches.
@@ -117,16 +184,4 @@ pub struct Counts {
     pub back_steps: u32,
     pub jumps: u32,
     pub touches: u32,
-}
-
-#[derive(Clone, Copy)]
-pub enum RetraceAnswer {
-    Joined(Counts),
-    NotJoined(Refusal),
-}
-
-#[derive(Clone, Copy)]
-pub enum CheckAnswer {
-    Accepted,
-    NotAccepted(Refusal),
 }

@@ -1,5 +1,5 @@
 -- Contour after contour is marked. Assumes nothing.
-use mathlib.Core.Path.{◌≡◌, sym, ap, subst, ◌∙◌}
+use mathlib.Core.Path.{◌≡◌, refl, sym, ap, subst, ◌∙◌}
 use mathlib.Core.Bool.{Bool, true, false}
 use mathlib.Core.List.{List, [], ◌∷◌, ◌++◌, append-nil, append_assoc}
 use Prim.Native.Nat.{ℕ, zero, suc, ◌+◌, ◌-◌, ◌≤◌, ◌<◌}
@@ -27,6 +27,10 @@ pub run_some : (xs : List Float) (s : Float) (n : ℕ) (c : code.Contour) (owner
 unfolding contour_of
 run_some xs s n c owners owners' h e r =
     record { inside = λ i l. rw e at (r.inside i (omega arith)); before = r.before; after = λ v l. r.after v (omega arith) }
+
+-- an empty one
+pub run_none : (xs : List Float) (s : Float) (number first n : ℕ) (owners : List ℕ) → n ≡ 0 → MarkedRun xs s number first n owners owners
+run_none xs s number first n owners e = record { inside = λ i l. absurd (omega arith); before = λ v l. refl; after = λ v l. refl }
 
 -- the contours before contour j, whose vertex 0 is `first`, are marked
 pub record SoFar (xs : List Float) (s : Float) (lengths owners : List ℕ) (first j : ℕ) : Type 0 where

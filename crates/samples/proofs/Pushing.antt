@@ -1,6 +1,6 @@
 -- A vertex is put in front of its cell's chain. Assumes nothing.
-use mathlib.Core.Path.{◌≡◌, refl, sym, ap, ◌∙◌}
-use mathlib.Core.Bool.{Bool, true, false, ◌&&◌, true≢false}
+use mathlib.Core.Path.{◌≡◌, sym, ap, ◌∙◌}
+use mathlib.Core.Bool.{Bool, true, false, true≢false}
 use mathlib.Core.List.{List}
 use Prim.Native.Nat.{ℕ, suc, ◌+◌, ◌-◌, ◌≤◌, ◌<◌}
 use native.Mathlib.Decide.{ℕ_discrete}
@@ -10,6 +10,7 @@ use lib.Dec.{ltb}
 use lib.ListN.{length, get_or, set, length-set}
 use lib.Seq.{get_or-set_same, get_or-set_other}
 use borrow.Author.Tests.{lt-ltb, le-ltb, eq-eqb, ne_eqb}
+use Rattle.std.proofs.Math.Bool.{and-false}
 use Rattle.rules.specs.Tools.{pick}
 use Rattle.layout.specs.Parts.{from, KeptBelow, KeptFrom}
 use Rattle.samples.specs.Chains.{first_of, is_in_cell, Rising}
@@ -22,11 +23,7 @@ in_cell owner cell c v h e = rw (lt-ltb 0 (owner v) (omega arith), eq-eqb (cell 
 
 pub not_in_cell : (owner cell : ℕ → ℕ) (c v : ℕ) → (cell v ≡ c → ⊥) → is_in_cell owner cell c v ≡ false
 unfolding is_in_cell
-not_in_cell owner cell c v h = rw (ne_eqb (cell v) c h) (and_false (ltb 0 (owner v)))
-  where
-    and_false : (b : Bool) → (b && false) ≡ false
-    and_false true = refl
-    and_false false = refl
+not_in_cell owner cell c v h = rw (ne_eqb (cell v) c h) (and-false (ltb 0 (owner v)))
 
 pub no_sample : (owner cell : ℕ → ℕ) (c v : ℕ) → owner v ≡ 0 → is_in_cell owner cell c v ≡ false
 unfolding is_in_cell

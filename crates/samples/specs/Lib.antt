@@ -4,3 +4,4 @@ pub mod Owning
 pub mod Plated
 pub mod Chains
 pub mod Walks
+pub mod Framed

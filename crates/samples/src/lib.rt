@@ -10,26 +10,29 @@ ghost use Rattle.rules.specs.Distances as distances;
 ghost use Rattle.rules.specs.SamplesAndCache.{cell_at};
 ghost use Rattle.start.specs.Oriented.{contour_of};
 ghost use Rattle.layout.specs.Parts.{from, KeptBelow, KeptFrom};
-ghost use Rattle.grid.specs.Sane.{Sane};
-ghost use Rattle.samples.specs.Owners.{Marked, MarkedRun, MarkedAll};
-ghost use Rattle.samples.specs.Plated.{Plated};
-ghost use Rattle.samples.specs.Chains.{Chained};
+ghost use Rattle.samples.specs.Owners.{Marked, MarkedAll};
+ghost use Rattle.samples.specs.Framed.{PlatedBy, ChainedBy};
 
-use grid::{cell_number, cell_of};
+use grid::Grid;
 use layout::Layout;
 use point::distance;
 use remainder::remainder;
-use rules::{SpatialGrid, Vertex};
-use start::{Contour, point_at};
+use rules::{Vertex, point_at};
+use start::Contour;
+
+// A plate's points and grid, and how the parts of the lent slice lie for them.
+#[derive(Clone, Copy)]
+pub struct Frame<'a> {
+    pub points: &'a [f64],
+    pub grid: Grid,
+    pub layout: Layout,
+}
 
 // Whether a vertex is a sample: the total has reached the resolution there, or no vertex is left behind it.
 fn is_sample(reached: bool, left: u32) -> bool
     ensures { result ≡ (reached || eqb left 0) }
 {
-    if reached {
-        return true;
-    }
-    left == 0
+    reached || left == 0
 }
 
 // What is carried on from a total: its remainder, where it has reached the resolution.
@@ -37,9 +40,10 @@ fn carried(reached: bool, total: f64, resolution: f64) -> f64
     ensures { result ≡ pick reached (Ieee.rem binary64 total resolution) total }
 {
     if reached {
-        return remainder(total, resolution);
+        remainder(total, resolution)
+    } else {
+        total
     }
-    total
 }
 
 fn owner_if(sample: bool, owner: u32) -> u32
@@ -78,30 +82,6 @@ pub fn arc_length_sample_indices(points: &[f64], owners: &mut [u32], resolution:
     }
 }
 
-// Marks the samples of a contour of `size` vertices, which may be empty.
-fn mark_contour(
-    points: &[f64],
-    owners: &mut [u32],
-    resolution: f64,
-    number: u32,
-    first: Vertex,
-    size: u32,
-)
-    requires { (number < 4096) × (first.0 + size ≤ length owners.old) × (length owners.old ≤ 65536)
-        × (2 * length owners.old ≤ length points.now) }
-    ensures { MarkedRun points.now resolution number first.0 size owners.old owners.new }
-{
-    if size == 0 {
-        return;
-    }
-    let c = Contour {
-        number,
-        first,
-        last: size - 1,
-    };
-    arc_length_sample_indices(points, &mut *owners, resolution, c);
-}
-
 // Marks the samples of every contour.
 pub fn mark_samples(points: &[f64], lengths: &[u32], owners: &mut [u32], resolution: f64)
     requires { (length lengths.now ≤ 4096) × (sum lengths.now ≡ length owners.old) × (length owners.old ≤ 65536)
@@ -109,40 +89,40 @@ pub fn mark_samples(points: &[f64], lengths: &[u32], owners: &mut [u32], resolut
     ensures { MarkedAll points.now resolution lengths.now owners.new }
 {
     let mut first: u32 = 0;
-    let mut i: usize = 0;
-    while i < lengths.len() {
-        let size = lengths[i];
-        mark_contour(
-            points,
-            &mut *owners,
-            resolution,
-            i as u32,
-            Vertex(first),
-            size,
-        );
+    for (number, &size) in lengths.iter().enumerate() {
+        if size != 0 {
+            let c = Contour {
+                number: number as u32,
+                first: Vertex(first),
+                last: size - 1,
+            };
+            arc_length_sample_indices(points, &mut *owners, resolution, c);
+        }
         first += size;
-        i += 1;
     }
 }
 
 // The number of a vertex's cell.
-fn cell_at(points: &[f64], g: SpatialGrid, v: Vertex) -> u32
-    requires { (Sane g) × (2 * v.0 + 1 < length points.now) }
-    ensures { (result ≡ cell_at (at points.now) g v.0) × (result < g.cols * g.rows) }
+fn cell_at(frame: &Frame<'_>, v: Vertex) -> u32
+    requires { 2 * v.0 + 1 < length frame.now.points.now }
+    ensures { (result ≡ cell_at (at frame.now.points.now) frame.now.grid.spatial v.0)
+        × (result < frame.now.grid.spatial.cols * frame.now.grid.spatial.rows) }
 {
-    cell_number(g, cell_of(g, point_at(points, v)))
+    let cell = frame.grid.cell_of(point_at(frame.points, v));
+    frame.grid.cell_number(cell)
 }
 
 // Puts a vertex in front of its cell's chain, if it is a sample.
-fn push_sample(points: &[f64], g: SpatialGrid, work: &mut [u32], lay: Layout, v: Vertex)
-    requires { (Plated points.now g lay work.old) × (v.0 < lay.points)
-        × (Chained points.now g lay (from work.old lay.owners) work.old (v.0 + 1)) }
-    ensures { (Chained points.now g lay (from work.old lay.owners) work.new v.0)
-        × (KeptFrom lay.owners work.old work.new) × (KeptBelow lay.heads work.old work.new) }
+fn push_sample(frame: &Frame<'_>, work: &mut [u32], v: Vertex)
+    requires { (PlatedBy frame.now work.old) × (v.0 < frame.now.layout.points)
+        × (ChainedBy frame.now (from work.old frame.now.layout.owners) work.old (v.0 + 1)) }
+    ensures { (ChainedBy frame.now (from work.old frame.now.layout.owners) work.new v.0)
+        × (KeptFrom frame.now.layout.owners work.old work.new) × (KeptBelow frame.now.layout.heads work.old work.new) }
 {
+    let lay = frame.layout;
     let o = lay.owners + (v.0 as usize);
     if work[o] != 0 {
-        let head = lay.heads + (cell_at(points, g, v) as usize);
+        let head = lay.heads + (cell_at(frame, v) as usize);
         let link = lay.next + (v.0 as usize);
         work[link] = work[head];
         work[head] = v.0 + 1;
@@ -150,14 +130,14 @@ fn push_sample(points: &[f64], g: SpatialGrid, work: &mut [u32], lay: Layout, v:
 }
 
 // Chains the samples of each cell in rising order: from the last vertex down, each is put in front. No cell has a chain before.
-pub fn chain_samples(points: &[f64], g: SpatialGrid, work: &mut [u32], lay: Layout)
-    requires { (Plated points.now g lay work.old) × ((c : ℕ) → c < lay.cells → from work.old lay.heads c ≡ 0) }
-    ensures { (Chained points.now g lay (from work.old lay.owners) work.new 0)
-        × (KeptFrom lay.owners work.old work.new) × (KeptBelow lay.heads work.old work.new) }
+pub fn chain_samples(frame: &Frame<'_>, work: &mut [u32])
+    requires { (PlatedBy frame.now work.old)
+        × ((c : ℕ) → c < frame.now.layout.cells → from work.old frame.now.layout.heads c ≡ 0) }
+    ensures { (ChainedBy frame.now (from work.old frame.now.layout.owners) work.new 0)
+        × (KeptFrom frame.now.layout.owners work.old work.new) × (KeptBelow frame.now.layout.heads work.old work.new) }
 {
-    let mut v = lay.points as u32;
-    while 0 < v {
-        v -= 1;
-        push_sample(points, g, &mut *work, lay, Vertex(v));
+    let n = frame.layout.points as u32;
+    for v in (0..n).rev() {
+        push_sample(frame, &mut *work, Vertex(v));
     }
 }

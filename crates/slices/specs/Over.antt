@@ -25,7 +25,7 @@ over_snoc (a ∷ bs) [] x h = absurd (not-suc-le-zero h)
 over_snoc {A} (a ∷ bs) (y ∷ ys) x h = ap {B = List A} (λ r. a ∷ r) (over_snoc bs ys x (le_of_suc-le-suc h))
 
 -- a list over a part of n entries, and what comes after the part
-over_rest : {A : Type 0} (new slice : List A) (n : ℕ) → length new ≤ n → n ≤ length slice → over new (take n slice) ++ drop n slice ≡ over new slice
+pub over_rest : {A : Type 0} (new slice : List A) (n : ℕ) → length new ≤ n → n ≤ length slice → over new (take n slice) ++ drop n slice ≡ over new slice
 unfolding over
 over_rest {A} new slice n h l =
     append_assoc new (drop (length new) (take n slice)) (drop n slice)

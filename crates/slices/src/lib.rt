@@ -1,13 +1,2 @@
-// Output slices: how much of a result fits. Their laws stand in specs/.
+// No code: laws on output slices, of what is written over their start, stand in specs/.
 #![tactic(auto)]
-
-ghost use Rattle.std.specs.Prelude.{◌≡◌, min};
-
-pub fn least(a: usize, b: usize) -> usize
-    ensures { result ≡ min a b }
-{
-    if a < b {
-        return a;
-    }
-    b
-}

@@ -32,6 +32,7 @@ fn root_of_32_bits(n: u64) -> Root
     ensures { (result.root * result.root + result.remainder ≡ n) × (result.remainder ≤ 2 * result.root) }
 {
     let mut x = newton_step(n, newton_step(n, n / 98304 + 23211));
+    // No index: x goes down to the root.
     while n < x * x {
         x -= 1;
     }
@@ -74,7 +75,7 @@ fn wide_root(n: u64) -> Root
     karatsuba_step(m, 0, 0, 16777216)
 }
 
-// Rust's x.sqrt(). The radicand takes in the factor 2 of an odd exponent; 1683 is 2276 less half of 1138 and half of 48.
+// Rust's x.sqrt(), over bits, as the documents ask. The radicand takes in the factor 2 of an odd exponent; 1683 is 2276 less half of 1138 and half of 48.
 pub fn square_root(x: f64) -> f64
     requires { T (non_negative x) }
     ensures { result ≡ sqrt binary64 x }

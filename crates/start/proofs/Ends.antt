@@ -1,6 +1,5 @@
 -- The ends of contours, one contour at a time. Assumes nothing.
 use mathlib.Core.Path.{◌≡◌, refl, sym, ap, ◌∙◌}
-use mathlib.Core.Bool.{true, false}
 use mathlib.Core.List.{List, [], ◌∷◌}
 use mathlib.Core.Option.{Option, none}
 use Prim.Native.Nat.{ℕ, zero, suc, ◌+◌, ◌-◌, ◌<◌, ◌≤◌}
@@ -11,7 +10,7 @@ use lib.ListN.{length, get_or, drop, drop_of_length-le}
 use lib.Seq.{drop-cons}
 use Rattle.rules.specs.Tools.{foldl}
 use Rattle.rules.specs.HandedOver.{Plate, Contour, contours_from, contours}
-use Rattle.rules.specs.Start.{Oriented, oriented, ends, layer_of, beats, measured_from, start}
+use Rattle.rules.specs.Start.{Oriented, ends, layer_of, beats, measured_from, start}
 use Rattle.rules.specs.declared.Point.{Point}
 use Rattle.path.specs.Layers.{leads_in}
 use Rattle.path.proofs.Layers.{foremost_is}
@@ -26,15 +25,10 @@ unfolding contours_from ends
 led_none p q s b j v zero e = refl
 led_none p q s b j v (suc n) e = absurd (omega arith)
 
-pub led_one : (p : Plate) (q : Point) (s : StartPointStrategy) (b : Option Oriented) (j v n : ℕ) (c : Contour) → (n ≡ 0 → ⊥) →
-    c ≡ record { number = j; first = v; last = n - 1 } →
-    leads_in (layer_of p) (beats s) (leads_in (layer_of p) (beats s) b (oriented p q false c)) (oriented p q true c) ≡ led p q s b (contours_from j v (n ∷ []))
-unfolding contours_from ends
-led_one p q s b j v zero c z e = absurd (z refl)
-led_one p q s b j v (suc n) c z e =
-    let k : suc n - 1 ≡ n = omega arith in
-    let f : c ≡ record { number = j; first = v; last = n } = e ∙ ap {B = Contour} (λ (m : ℕ). record { number = j; first = v; last = m }) k in
-    rw f
+pub contour_one : (j v n : ℕ) → (n ≡ 0 → ⊥) → contours_from j v (n ∷ []) ≡ record { number = j; first = v; last = n - 1 } ∷ []
+unfolding contours_from
+contour_one j v zero z = absurd (z refl)
+contour_one j v (suc n) z = let k : suc n - 1 ≡ n = omega arith in rw k
 
 pub led_cons : (p : Plate) (q : Point) (s : StartPointStrategy) (b : Option Oriented) (j v n : ℕ) (ns : List ℕ) →
     led p q s b (contours_from j v (n ∷ ns)) ≡ led p q s (led p q s b (contours_from j v (n ∷ []))) (contours_from (suc j) (v + n) ns)

@@ -4,17 +4,17 @@
 ghost use Rattle.std.specs.Prelude.{◌≡◌, ◌+◌, ◌*◌, ◌≤◌, ◌<◌, length, [], ◌∷◌};
 ghost use Rattle.std.proofs.Math.Option.{some};
 ghost use Rattle.rules.specs.Tools.{pick, foldl};
-ghost use Rattle.rules.specs.HandedOver.{Plate, plate, at, contours_from, start_answer};
+ghost use Rattle.rules.specs.HandedOver.{Plate, plate_of, at, answer_of};
 ghost use Rattle.rules.specs.Distances.{distance_squared};
 ghost use Rattle.rules.specs.Start as Start;
 ghost use Rattle.rules.specs.Calls.{start_call};
-ghost use Rattle.path.specs.Accepted.{Accepted};
 ghost use Rattle.path.specs.Layers.{beats_in, taking, leads_in};
-ghost use Rattle.start.specs.Oriented.{oriented_of, lead_of, LeadIn};
+ghost use Rattle.start.specs.Oriented.{contour_of, oriented_of, lead_of, LeadIn};
 
-use plate::{Checked, check};
+use plate::check;
+use plate::checked_input::CheckedInput;
 use point::distance_squared;
-use rules::{HIGHEST_LAYER, Point, Refusal, StartAnswer, StartPointStrategy, Vertex};
+use rules::{HIGHEST_LAYER, Input, Point, Refusal, StartPointStrategy, Vertex, point_at};
 
 // A contour that is not empty: its number, its first vertex, and its last, counted from 0 within it.
 #[derive(Clone, Copy)]
@@ -30,25 +30,6 @@ pub struct Oriented {
     pub contour: Contour,
     pub reversed: bool,
     pub squared: f64,
-}
-
-// What a choice has so far.
-#[derive(Clone, Copy)]
-pub enum Lead {
-    Best(Oriented),
-    Nothing,
-}
-
-// The point of a vertex.
-pub fn point_at(points: &[f64], v: Vertex) -> Point
-    requires { 2 * v.0 + 1 < length points.now }
-    ensures { result ≡ at points.now v.0 }
-{
-    let i = 2 * (v.0 as usize);
-    Point {
-        x: points[i],
-        y: points[i + 1],
-    }
 }
 
 pub fn image_center(width: u32, height: u32) -> Point
@@ -76,11 +57,10 @@ pub fn first_end(c: Contour, reversed: bool) -> Vertex
     requires { c.first.0 + c.last < 65536 }
     ensures { result.0 ≡ c.first.0 + pick reversed c.last 0 }
 {
-    let first = c.first.0;
     if reversed {
-        return Vertex(first + c.last);
+        return Vertex(c.first.0 + c.last);
     }
-    Vertex(first)
+    c.first
 }
 
 // A contour in a sense, seen from q.
@@ -126,116 +106,84 @@ fn takes_lead(layers: &[u32], strategy: StartPointStrategy, new: Oriented, best:
 }
 
 // The lead where there was none: a contour with a layer above the highest is never chosen.
-fn first_lead(layers: &[u32], new: Oriented) -> Lead
+fn first_lead(layers: &[u32], new: Oriented) -> Option<Oriented>
     requires { new.contour.number < length layers.now }
     ensures { (LeadIn (length layers.now) result)
         × ((p : Plate) → p.layers ≡ layers.now → lead_of result ≡ taking (Start.layer_of p) (some (oriented_of new))) }
 {
     let k = new.contour.number as usize;
     if HIGHEST_LAYER < layers[k] {
-        return Lead::Nothing;
+        return None;
     }
-    Lead::Best(new)
+    Some(new)
 }
 
 // The lead after one more.
-fn lead_after(layers: &[u32], strategy: StartPointStrategy, lead: Lead, new: Oriented) -> Lead
+fn lead_after(
+    layers: &[u32],
+    strategy: StartPointStrategy,
+    lead: Option<Oriented>,
+    new: Oriented,
+) -> Option<Oriented>
     requires { (new.contour.number < length layers.now) × LeadIn (length layers.now) lead }
     ensures { (LeadIn (length layers.now) result)
         × ((p : Plate) → p.layers ≡ layers.now →
         lead_of result ≡ leads_in (Start.layer_of p) (Start.beats strategy) (lead_of lead) (oriented_of new)) }
 {
-    let Lead::Best(best) = lead else {
+    let Some(best) = lead else {
         return first_lead(layers, new);
     };
     if takes_lead(layers, strategy, new, best) {
-        return Lead::Best(new);
+        return Some(new);
     }
-    Lead::Best(best)
+    Some(best)
 }
 
-// The lead after a contour of a length: its first point before its last. An empty one is skipped.
-fn try_contour(
-    points: &[f64],
-    layers: &[u32],
-    q: Point,
-    strategy: StartPointStrategy,
-    lead: Lead,
-    number: u32,
-    first: Vertex,
-    size: u32,
-) -> Lead
-    requires { (first.0 + size ≤ 65536) × (2 * (first.0 + size) ≤ length points.now) × (number < length layers.now) × LeadIn (length layers.now) lead }
-    ensures { (LeadIn (length layers.now) result)
-        × ((p : Plate) → p.points ≡ points.now → p.layers ≡ layers.now →
-        lead_of result ≡ foldl (leads_in (Start.layer_of p) (Start.beats strategy)) (lead_of lead) (Start.ends p q (contours_from number first.0 (size ∷ [])))) }
+// The lead after a contour: its first point before its last.
+fn try_contour(input: &Input<'_>, q: Point, lead: Option<Oriented>, c: Contour) -> Option<Oriented>
+    requires within { c.first.0 + c.last < 65536 }
+    requires held { 2 * (c.first.0 + c.last) + 1 < length input.now.points.now }
+    requires layered { c.number < length input.now.layers.now }
+    requires led { LeadIn (length input.now.layers.now) lead }
+    ensures led { LeadIn (length input.now.layers.now) result }
+    ensures lead { let p = plate_of input.now in
+        lead_of result ≡ foldl (leads_in (Start.layer_of p) (Start.beats p.strategy)) (lead_of lead) (Start.ends p q (contour_of c ∷ [])) }
 {
-    if size == 0 {
-        return lead;
-    }
-    let c = Contour {
-        number,
-        first,
-        last: size - 1,
-    };
-    let forward = orient(points, q, false, c);
-    let reverse = orient(points, q, true, c);
-    let led = lead_after(layers, strategy, lead, forward);
-    lead_after(layers, strategy, led, reverse)
+    let forward = orient(input.points, q, false, c);
+    let reverse = orient(input.points, q, true, c);
+    let led = lead_after(input.layers, input.strategy, lead, forward);
+    lead_after(input.layers, input.strategy, led, reverse)
 }
 
 // The end that leads the path, or nothing where no contour has a point.
-pub fn choose_start_contour(
-    points: &[f64],
-    lengths: &[u32],
-    layers: &[u32],
-    width: u32,
-    height: u32,
-    strategy: StartPointStrategy,
-) -> Lead
-    requires { (Accepted points.now lengths.now) × (length layers.now ≡ length lengths.now) }
-    ensures { lead_of result ≡ Start.start (plate points.now lengths.now layers.now width height strategy) }
+pub fn choose_start_contour(checked: &CheckedInput<'_>) -> Option<Oriented>
+    ensures { lead_of result ≡ Start.start (plate_of checked.now.input) }
 {
-    let from = measured_from(width, height, strategy);
-    let mut lead = Lead::Nothing;
+    let input = checked.input;
+    let from = measured_from(input.width, input.height, input.strategy);
+    let mut lead = None;
     let mut first: u32 = 0;
-    let mut i: usize = 0;
-    while i < lengths.len() {
-        let size = lengths[i];
-        lead = try_contour(
-            points,
-            layers,
-            from,
-            strategy,
-            lead,
-            i as u32,
-            Vertex(first),
-            size,
-        );
+    for (number, &size) in input.lengths.iter().enumerate() {
+        if size != 0 {
+            let c = Contour {
+                number: number as u32,
+                first: Vertex(first),
+                last: size - 1,
+            };
+            lead = try_contour(&input, from, lead, c);
+        }
         first += size;
-        i += 1;
     }
     lead
 }
 
-// The start call.
-pub fn start_call(
-    points: &[f64],
-    lengths: &[u32],
-    layers: &[u32],
-    width: u32,
-    height: u32,
-    strategy: StartPointStrategy,
-) -> StartAnswer
-    ensures { start_answer result ≡ start_call (plate points.now lengths.now layers.now width height strategy) }
+// The start call: the contour's number, and whether it is reversed.
+pub fn start_call(input: &Input<'_>) -> Result<(u32, bool), Refusal>
+    ensures { answer_of result ≡ start_call (plate_of input.now) }
 {
-    let checked = check(points, lengths, layers, strategy);
-    if let Checked::Unsound(r) = checked {
-        return StartAnswer::NoStart(r);
-    }
-    let lead = choose_start_contour(points, lengths, layers, width, height, strategy);
-    let Lead::Best(s) = lead else {
-        return StartAnswer::NoStart(Refusal::Blank);
+    let checked = check(input)?;
+    let Some(s) = choose_start_contour(&checked) else {
+        return Err(Refusal::Blank);
     };
-    StartAnswer::Start(s.contour.number, s.reversed)
+    Ok((s.contour.number, s.reversed))
 }

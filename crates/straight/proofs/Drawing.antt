@@ -33,25 +33,25 @@ runs_next ns ws i h = rw (add-one, take-suc ws i 0 h) (runs_snoc ns (take i ws) 
 -- ---- the path
 
 -- `now` is the path slice `base` with the points of the vertices vs, or with as many of them as there is room for
-pub record Drawn (xs : List Float) (vs : List ℕ) (room : ℕ) (base now : List Float) (count : ℕ) : Type 0 where
-  pub counted : count ≡ min (length vs) room
+pub record Drawn (xs : List Float) (vs : List ℕ) (base now : List Float) (count : ℕ) : Type 0 where
+  pub counted : count ≡ min (length vs) (length base / 2)
   pub same : length now ≡ length base
-  pub written : now ≡ over (coordinates xs (take room vs)) base
+  pub written : now ≡ over (coordinates xs (take (length base / 2) vs)) base
 
-pub drawn_none : (xs : List Float) (room : ℕ) (base : List Float) → Drawn xs [] room base base 0
+pub drawn_none : (xs base : List Float) → Drawn xs [] base base 0
 unfolding coordinates over
-drawn_none xs room base = record { counted = omega arith; same = refl; written = rw (take-nil room) }
+drawn_none xs base = record { counted = omega arith; same = refl; written = rw (take-nil (length base / 2)) }
 
-module _ (xs : List Float) (vs : List ℕ) (room : ℕ) (base now : List Float) (count : ℕ) (d : Drawn xs vs room base now count) (fits : 2 * room ≤ length base) where
+module _ (xs : List Float) (vs : List ℕ) (base now : List Float) (count : ℕ) (d : Drawn xs vs base now count) where
+  abbrev room : ℕ
+  room = length base / 2
+
   -- the part of the path that has room yet
   abbrev rest : List Float
-  rest = take (2 * room - 2 * count) (drop (2 * count) now)
+  rest = take (length now - 2 * count) (drop (2 * count) now)
 
-  rest_length : length rest ≡ 2 * room - 2 * count
-  rest_length =
-      let e = d.counted in
-      let f = d.same in
-      omega (arith, length-take (2 * room - 2 * count) (drop (2 * count) now), length-drop (2 * count) now)
+  rest_length : length rest ≡ length base - 2 * count
+  rest_length = let f = d.same in omega (arith, length-take (length now - 2 * count) (drop (2 * count) now), length-drop (2 * count) now)
 
   module _ (new : List ℕ) (r : ℕ) (part : List Float) (many : r ≡ min (length new) (length rest / 2)) (put : part ≡ over (coordinates xs (take r new)) rest) where
     more_vertices : take room vs ++ take r new ≡ take room (vs ++ new)
@@ -60,11 +60,12 @@ module _ (xs : List Float) (vs : List ℕ) (room : ℕ) (base now : List Float) 
         let f : r ≡ min (length new) (room - length vs) = omega (arith, rest_length) in
         ap (λ (ys : List ℕ). take room vs ++ ys) (ap (λ (k : ℕ). take k new) f ∙ take_min (room - length vs) new) ∙ sym (take_append room vs new)
 
-    pub drawn_more : Drawn xs (vs ++ new) room base (take (2 * count) now ++ (part ++ drop (2 * room - 2 * count) (drop (2 * count) now))) (count + r)
+    pub drawn_more : Drawn xs (vs ++ new) base (take (2 * count) now ++ (part ++ drop (length now - 2 * count) (drop (2 * count) now))) (count + r)
     drawn_more =
         let e = d.counted in
+        let m = d.same in
         let old = coordinates xs (take room vs) in
-        let k = 2 * room - 2 * count in
+        let k = length now - 2 * count in
         let a : length old ≡ 2 * count = omega (arith, coordinates_length xs (take room vs), length-take room vs) in
         let b : length (coordinates xs (take r new)) ≤ k = omega (arith, coordinates_length xs (take r new), length-take r new, rest_length) in
         let w =

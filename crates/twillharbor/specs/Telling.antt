@@ -1,25 +1,24 @@
 -- What is promised of a retrace call's answer is promised of the struct that tells it. Assumes nothing.
-use Rattle.std.specs.Prelude.{◌≡◌, refl, List, ℕ, ◌*◌, ◌≤◌, Float, length, take}
+use Rattle.std.specs.Prelude.{◌≡◌, refl, List, ℕ, ◌*◌, ◌≤◌, Float, length, take, Result, Ok, Err}
 use Rattle.std.proofs.Math.Path.{ap}
 use Rattle.std.proofs.Common.{arith}
 use Rattle.rules.specs.Tools.{pick}
-use Rattle.rules.specs.HandedOver.{Plate, Answer, gives, refuses, refusal, retrace_answer, WorkKept}
+use Rattle.rules.specs.HandedOver.{Plate, Answer, gives, refuses, refusal, answer_of, WorkKept}
 use Rattle.rules.specs.Calls.{RetraceOutcome, retrace_call}
 use Rattle.statement.specs.PathStatement.{contour_count, Divides, NeverFall}
 use Rattle.statement.specs.HowNear.{LandingsNear, written_points}
 use Rattle.rules.specs.declared.Counts.{Counts}
-use Rattle.rules.specs.declared.RetraceAnswer.{RetraceAnswer}
-use Rattle.rules.specs.declared.RetraceAnswer.TheVariants.{Joined, NotJoined}
+use Rattle.rules.specs.declared.Refusal.{Refusal}
 use Rattle.results.specs.Results.{retrace_result, counts_of, written_of}
 use Rattle.results.specs.Refusals.{above_zero}
 use Rattle.twillharbor.specs.Retraced.{Retraced}
 use Rattle.results.specs.declared.RetraceResult.{RetraceResult}
 
 -- with the number 0 it carries the answer's counts
-told_counts : (r : RetraceAnswer) → (retrace_result (retrace_answer r)).number ≡ 0 → retrace_answer r ≡ gives (counts_of (retrace_result (retrace_answer r)))
-unfolding retrace_result retrace_answer counts_of refusal
-told_counts (Joined c) z = refl
-told_counts (NotJoined r) z = absurd (omega (arith, above_zero r))
+told_counts : (r : Result Counts Refusal) → (retrace_result (answer_of r)).number ≡ 0 → answer_of r ≡ gives (counts_of (retrace_result (answer_of r)))
+unfolding retrace_result answer_of counts_of refusal
+told_counts (Ok c) z = refl
+told_counts (Err r) z = absurd (omega (arith, above_zero r))
 
 told_written : (a : Answer Counts) → written_of (retrace_result a) ≡ written_points a
 unfolding retrace_result written_of written_points pick
@@ -42,7 +41,7 @@ module _ (p : Plate) (path : List Float) (ms work : List ℕ) (ds path' : List F
       (1 ≤ contour_count p → Divides p n (take (2 * n.points) path') (take (2 * n.points) ms')) × NeverFall p n.points (take (2 * n.points) ms'))
       × LandingsNear path' ms' (written_points a)
 
-  pub told : (answer : RetraceAnswer) (r : RetraceResult) → r ≡ retrace_result (retrace_answer answer) → Promised (retrace_answer answer) →
+  pub told : (answer : Result Counts Refusal) (r : RetraceResult) → r ≡ retrace_result (answer_of answer) → Promised (answer_of answer) →
       Retraced p path ms work ds path' ms' work' ds' r
   unfolding counts_of
   told answer r e ((a, b, c, d, f), divides, near) =
@@ -55,5 +54,5 @@ module _ (p : Plate) (path : List Float) (ms work : List ℕ) (ds path' : List F
         distances_kept = f;
         divides = λ z. (divides _ (told_counts answer z)).0;
         never_fall = λ z. (divides _ (told_counts answer z)).1;
-        near = rw (told_written (retrace_answer answer)) near;
+        near = rw (told_written (answer_of answer)) near;
       })

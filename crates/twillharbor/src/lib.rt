@@ -1,9 +1,8 @@
-// The C interface.
+// The C interface: its functions take slices and numbers one by one, under one name for each way to start.
 #![tactic(auto)]
 
 ghost use Rattle.std.specs.Prelude.{◌≡◌, ◌/◌, length};
-ghost use Rattle.rules.specs.HandedOver.{plate, parked_plate, contours_of, WorkKept};
-ghost use Rattle.rules.specs.declared.StartPointStrategy.TheVariants.{Home};
+ghost use Rattle.rules.specs.HandedOver.{plate, plate_of, parked_plate, contours_of, WorkKept};
 ghost use Rattle.rules.specs.Calls.{distance_call, start_call, order_call, straight_call};
 ghost use Rattle.statement.specs.PathCheck.{DividesByPoints, FirstFault, check_call};
 ghost use Rattle.file_format.specs.PlateFile.{write_call, read_call};
@@ -21,7 +20,7 @@ use results::{
     retrace_result, start_result, straight_result, write_result,
 };
 use retrace::retrace_call;
-use rules::{Point, StartPointStrategy};
+use rules::{Input, Point, StartPointStrategy};
 use start::start_call;
 use straight::straight_call;
 
@@ -29,10 +28,11 @@ use straight::straight_call;
 pub extern "C" fn twillharbor_distance(ax: f64, ay: f64, bx: f64, by: f64) -> DistanceResult
     ensures { result ≡ distance_result (distance_call (point_of ax ay) (point_of bx by)) }
 {
-    let answer = distance_call(Point { x: ax, y: ay }, Point { x: bx, y: by });
-    distance_result(answer)
+    distance_result(distance_call(Point { x: ax, y: ay }, Point { x: bx, y: by }))
 }
 
+// What a `bool` means in C alone, so no `From`.
+#[tactic(auto, unfolding(crate::specs::Arguments::strategy_of, rules::specs::Tools::pick))]
 fn strategy_of(inside: bool) -> StartPointStrategy
     ensures { result ≡ strategy_of inside }
 {
@@ -42,10 +42,40 @@ fn strategy_of(inside: bool) -> StartPointStrategy
     StartPointStrategy::Outside
 }
 
-fn home(x: f64, y: f64) -> StartPointStrategy
-    ensures { result ≡ Home (point_of x y) }
+// What a call with a plate's size is handed.
+fn sized<'a>(
+    points: &'a [f64],
+    lengths: &'a [u32],
+    layers: &'a [u32],
+    width: u32,
+    height: u32,
+    inside: bool,
+) -> Input<'a>
+    ensures { plate_of result ≡ plate points.now lengths.now layers.now width height (strategy_of inside) }
 {
-    StartPointStrategy::Home(Point { x, y })
+    Input {
+        points,
+        lengths,
+        layers,
+        width,
+        height,
+        strategy: strategy_of(inside),
+    }
+}
+
+// What a call with a parked point is handed.
+#[tactic(auto, unfolding(rules::specs::HandedOver::parked_plate))]
+fn parked<'a>(points: &'a [f64], lengths: &'a [u32], layers: &'a [u32], x: f64, y: f64) -> Input<'a>
+    ensures { plate_of result ≡ parked_plate points.now lengths.now layers.now x y }
+{
+    Input {
+        points,
+        lengths,
+        layers,
+        width: 0,
+        height: 0,
+        strategy: StartPointStrategy::Home(Point { x, y }),
+    }
 }
 
 #[unsafe(no_mangle)]
@@ -59,9 +89,8 @@ pub extern "C" fn twillharbor_start(
 ) -> StartResult
     ensures { result ≡ start_result (start_call (plate points.now lengths.now layers.now width height (strategy_of inside))) }
 {
-    let strategy = strategy_of(inside);
-    let answer = start_call(points, lengths, layers, width, height, strategy);
-    start_result(answer)
+    let input = sized(points, lengths, layers, width, height, inside);
+    start_result(start_call(&input))
 }
 
 #[unsafe(no_mangle)]
@@ -74,9 +103,8 @@ pub extern "C" fn twillharbor_start_home(
 ) -> StartResult
     ensures { result ≡ start_result (start_call (parked_plate points.now lengths.now layers.now home_x home_y)) }
 {
-    let strategy = home(home_x, home_y);
-    let answer = start_call(points, lengths, layers, 0, 0, strategy);
-    start_result(answer)
+    let home = parked(points, lengths, layers, home_x, home_y);
+    start_result(start_call(&home))
 }
 
 #[unsafe(no_mangle)]
@@ -94,11 +122,8 @@ pub extern "C" fn twillharbor_order(
         let o = order_call p order.old (length work.old) in
         (result ≡ order_result o.answer) × (order.new ≡ o.order) × WorkKept o.answer work.old work.new }
 {
-    let strategy = strategy_of(inside);
-    let answer = order_call(
-        points, lengths, layers, width, height, strategy, order, work,
-    );
-    order_result(answer)
+    let input = sized(points, lengths, layers, width, height, inside);
+    order_result(order_call(&input, order, work))
 }
 
 #[unsafe(no_mangle)]
@@ -115,9 +140,8 @@ pub extern "C" fn twillharbor_order_home(
         let o = order_call p order.old (length work.old) in
         (result ≡ order_result o.answer) × (order.new ≡ o.order) × WorkKept o.answer work.old work.new }
 {
-    let strategy = home(home_x, home_y);
-    let answer = order_call(points, lengths, layers, 0, 0, strategy, order, work);
-    order_result(answer)
+    let home = parked(points, lengths, layers, home_x, home_y);
+    order_result(order_call(&home, order, work))
 }
 
 #[unsafe(no_mangle)]
@@ -135,9 +159,8 @@ pub extern "C" fn twillharbor_straight(
         let o = straight_call p path.old (length work.old) in
         (result ≡ straight_result o.answer) × (path.new ≡ o.path) × WorkKept o.answer work.old work.new }
 {
-    let strategy = strategy_of(inside);
-    let answer = straight_call(points, lengths, layers, width, height, strategy, path, work);
-    straight_result(answer)
+    let input = sized(points, lengths, layers, width, height, inside);
+    straight_result(straight_call(&input, path, work))
 }
 
 #[unsafe(no_mangle)]
@@ -154,9 +177,8 @@ pub extern "C" fn twillharbor_straight_home(
         let o = straight_call p path.old (length work.old) in
         (result ≡ straight_result o.answer) × (path.new ≡ o.path) × WorkKept o.answer work.old work.new }
 {
-    let strategy = home(home_x, home_y);
-    let answer = straight_call(points, lengths, layers, 0, 0, strategy, path, work);
-    straight_result(answer)
+    let home = parked(points, lengths, layers, home_x, home_y);
+    straight_result(straight_call(&home, path, work))
 }
 
 // `Retraced` (specs/Retraced.antt): answer and slices are those of the rules. Where the number is 0 and a contour holds a point, what was written divides as
@@ -178,11 +200,8 @@ pub extern "C" fn twillharbor_retrace(
     ensures { Retraced (plate points.now lengths.now layers.now width height (strategy_of inside))
         path.old marks.old work.old distances.old path.new marks.new work.new distances.new result }
 {
-    let strategy = strategy_of(inside);
-    let answer = retrace_call(
-        points, lengths, layers, width, height, strategy, path, marks, work, distances,
-    );
-    retrace_result(answer)
+    let input = sized(points, lengths, layers, width, height, inside);
+    retrace_result(retrace_call(&input, path, marks, work, distances))
 }
 
 // The path statement covers Home: the same promises, of the plate with the parked point.
@@ -201,11 +220,8 @@ pub extern "C" fn twillharbor_retrace_home(
     ensures { Retraced (parked_plate points.now lengths.now layers.now home_x home_y)
         path.old marks.old work.old distances.old path.new marks.new work.new distances.new result }
 {
-    let strategy = home(home_x, home_y);
-    let answer = retrace_call(
-        points, lengths, layers, 0, 0, strategy, path, marks, work, distances,
-    );
-    retrace_result(answer)
+    let home = parked(points, lengths, layers, home_x, home_y);
+    retrace_result(retrace_call(&home, path, marks, work, distances))
 }
 
 // Where the number is 0, the marks divide the path (statement/specs/PathCheck.antt); where it is 12, the place is the first fault.
@@ -225,8 +241,7 @@ pub extern "C" fn twillharbor_check_path(
         × (result.number ≡ 0 → DividesByPoints cs xs n path.now marks.now)
         × (result.number ≡ 12 → FirstFault cs xs n path.now marks.now result.place) }
 {
-    let answer = check_path(points, lengths, path, marks, work);
-    check_result(answer)
+    check_result(check_path(points, lengths, path, marks, work))
 }
 
 // The file of a path, over the start of `file`.
@@ -235,8 +250,7 @@ pub extern "C" fn twillharbor_write_file(path: &[f64], file: &mut [u8]) -> Write
     ensures { let o = write_call path.now file.old in
         (result ≡ write_result o.answer) × (file.new ≡ o.file) }
 {
-    let answer = write_file(path, file);
-    write_result(answer)
+    write_result(write_file(path, file))
 }
 
 // The path of a file, over the start of `path`.
@@ -245,6 +259,5 @@ pub extern "C" fn twillharbor_read_file(file: &[u8], path: &mut [f64]) -> ReadFi
     ensures { let o = read_call file.now path.old in
         (result ≡ read_result o.answer) × (path.new ≡ o.path) }
 {
-    let answer = read_file(file, path);
-    read_result(answer)
+    read_result(read_file(file, path))
 }

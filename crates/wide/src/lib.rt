@@ -12,11 +12,10 @@ pub struct Wide {
     pub lo: u64,
 }
 
-// What a shift to the right leaves, and the sticky bit of what it cut off.
+// What a shift to the right leaves, and the sticky bit of what it cut off: a digit, which sums take.
 #[derive(Clone, Copy)]
 pub struct Shifted {
-    pub hi: u64,
-    pub lo: u64,
+    pub value: Wide,
     pub sticky: u64,
 }
 
@@ -38,17 +37,16 @@ pub fn square(s: u64) -> Wide
 pub fn sticky_bit(x: u64) -> u64
     ensures { (result ≡ sticky_bit x) × (result ≤ 1) }
 {
-    if x == 0 { 0 } else { 1 }
+    u64::from(x != 0)
 }
 
 fn shift_right_below_64(w: Wide, d: u64) -> Shifted
     requires { d < 64 }
-    ensures { (wide result.hi result.lo ≡ wide w.hi w.lo / 2 ^ d) × (result.sticky ≡ sticky_bit (wide w.hi w.lo % 2 ^ d)) }
+    ensures { (wide result.value.hi result.value.lo ≡ wide w.hi w.lo / 2 ^ d) × (result.sticky ≡ sticky_bit (wide w.hi w.lo % 2 ^ d)) }
 {
     if d == 0 {
         return Shifted {
-            hi: w.hi,
-            lo: w.lo,
+            value: w,
             sticky: 0,
         };
     }
@@ -56,14 +54,16 @@ fn shift_right_below_64(w: Wide, d: u64) -> Shifted
     let l = w.lo >> d;
     let moved = (w.hi - (h << d)) << (64 - d);
     Shifted {
-        hi: h,
-        lo: moved + l,
+        value: Wide {
+            hi: h,
+            lo: moved + l,
+        },
         sticky: sticky_bit(w.lo - (l << d)),
     }
 }
 
 pub fn shift_right(w: Wide, d: u64) -> Shifted
-    ensures { (wide result.hi result.lo ≡ wide w.hi w.lo / 2 ^ d) × (result.sticky ≡ sticky_bit (wide w.hi w.lo % 2 ^ d)) }
+    ensures { (wide result.value.hi result.value.lo ≡ wide w.hi w.lo / 2 ^ d) × (result.sticky ≡ sticky_bit (wide w.hi w.lo % 2 ^ d)) }
 {
     if d < 64 {
         return shift_right_below_64(w, d);
@@ -71,14 +71,15 @@ pub fn shift_right(w: Wide, d: u64) -> Shifted
     if d < 128 {
         let c = shift_right_below_64(Wide { hi: 0, lo: w.hi }, d - 64);
         return Shifted {
-            hi: 0,
-            lo: c.lo,
+            value: Wide {
+                hi: 0,
+                lo: c.value.lo,
+            },
             sticky: sticky_bit(c.sticky + sticky_bit(w.lo)),
         };
     }
     Shifted {
-        hi: 0,
-        lo: 0,
+        value: Wide { hi: 0, lo: 0 },
         sticky: sticky_bit(sticky_bit(w.hi) + sticky_bit(w.lo)),
     }
 }
@@ -88,7 +89,7 @@ pub fn plus(a: Wide, b: Wide) -> Wide
     requires { a.hi + b.hi < 2 ^ 63 }
     ensures { (wide result.hi result.lo ≡ wide a.hi a.lo + wide b.hi b.lo) × (result.lo < 2 ^ 64) }
 {
-    let lo = std::num::wrapping_add_u64(a.lo, b.lo);
+    let lo = a.lo.wrapping_add(b.lo);
     if lo < a.lo {
         Wide {
             hi: a.hi + b.hi + 1,

@@ -1,15 +1,15 @@
 -- Words from a place on, taken one after the other. Assumes nothing.
-use mathlib.Core.Path.{◌≡◌, refl, sym, ap, ap₂, ◌∙◌}
+use mathlib.Core.Path.{◌≡◌, refl, sym, ap, ◌∙◌}
 use mathlib.Core.Bool.{Bool, true, false, cond}
 use mathlib.Core.List.{List, [], ◌∷◌, ◌++◌, append-nil}
 use Prim.Native.Nat.{ℕ, zero, suc, ◌+◌, ◌*◌, ◌/◌, ◌≤◌, ◌<◌, min}
 use native.Mathlib.Nat.{add_assoc, add-zero}
 use native.Mathlib.Numerals.{add-one}
 use native.Mathlib.Omega.{arith}
-use lib.Dec.{ltb}
 use lib.ListN.{length, get_or, take, drop, set, length-append, length-drop, drop_of_length-le}
 use lib.Seq.{drop-cons, drop-length, append_snoc, set_at}
-use borrow.Author.Tests.{ltb-true, ltb-false, lt-ltb, le-ltb}
+use Rattle.std.proofs.Math.Decide.{dec_le}
+use borrow.Author.Tests.{lt-ltb, le-ltb}
 use Rattle.words.specs.Words.{no_word, spelled, word, words_as, unlike}
 
 -- ---- words that are there, and places behind the last
@@ -22,41 +22,13 @@ pub missing : (text : List ℕ) (i : ℕ) → length text / 17 ≤ i → word te
 unfolding word
 missing text i h = rw (le-ltb i (length text / 17) h)
 
--- ---- places from which the words are the same
-
--- from both places on the words are the same
-abbrev pub Alike : List ℕ → ℕ → ℕ → Type 0
-Alike text a b = (k : ℕ) → word text (a + k) ≡ word text (b + k)
-
-alike_next : (text : List ℕ) (a b : ℕ) → Alike text a b → Alike text (a + 1) (b + 1)
-alike_next text a b h k = rw (add_assoc a 1 k, add_assoc b 1 k) (h (1 + k))
-
-alike_now : (text : List ℕ) (a b : ℕ) → Alike text a b → word text a ≡ word text b
-alike_now text a b h = rw (add-zero a, add-zero b) at (h 0)
-
-pub alike : (text : List ℕ) (i s : ℕ) → s ≡ min i (length text / 17) → Alike text s i
-alike text i s h k = go (ltb i (length text / 17)) refl
+-- a place that is no number of the code is behind the last word, and so is the greatest number
+pub capped : (text : List ℕ) (i k p : ℕ) → length text < 18446744073709551616 → p ≡ min (i + k) 18446744073709551615 → word text p ≡ word text (i + k)
+capped text i k p h e = go (dec_le (i + k) 18446744073709551615)
   where
-    go : (b : Bool) → ltb i (length text / 17) ≡ b → word text (s + k) ≡ word text (i + k)
-    go true t =
-        let e : s ≡ i = omega (arith, ltb-true i (length text / 17) t) in
-        rw e
-    go false t =
-        let l : length text / 17 ≤ i = ltb-false i (length text / 17) t in
-        missing text (s + k) (omega arith) ∙ sym (missing text (i + k) (omega arith))
-
-pub words_as_alike : {A : Type 0} (f : ℕ → A) (text : List ℕ) (a b n : ℕ) → Alike text a b → words_as f text a n ≡ words_as f text b n
-unfolding words_as
-words_as_alike f text a b zero h = refl
-words_as_alike {A} f text a b (suc n) h =
-    ap₂ {C = List A} (λ w r. f w ∷ r) (alike_now text a b h) (words_as_alike f text (a + 1) (b + 1) n (alike_next text a b h))
-
-pub unlike_alike : {A : Type 0} (same : A → ℕ → Bool) (text : List ℕ) (a b : ℕ) (xs : List A) → Alike text a b →
-    unlike same text a xs ≡ unlike same text b xs
-unfolding unlike
-unlike_alike same text a b [] h = refl
-unlike_alike same text a b (x ∷ xs) h =
-    ap₂ {C = ℕ} (λ w r. cond (same x w) 0 1 + r) (alike_now text a b h) (unlike_alike same text (a + 1) (b + 1) xs (alike_next text a b h))
+    go : Dec (i + k ≤ 18446744073709551615) → word text p ≡ word text (i + k)
+    go (yes l) = let f : p ≡ i + k = omega arith in rw f
+    go (no l) = missing text p (omega arith) ∙ sym (missing text (i + k) (omega arith))
 
 -- ---- one word more
 
@@ -101,10 +73,10 @@ module _ {A : Type 0} (f : ℕ → A) (text : List ℕ) (s : ℕ) (xs : List A) 
   pub copied_more : (d : A) (k : ℕ) (now : List A) (w : ℕ) (x : A) → Copied k now → k < length xs → w ≡ word text (s + k) → x ≡ f w → Copied (k + 1) (set now k x)
   copied_more d k now w x c h e g = (omega arith, rw (c.1, g, e) (stored d k h))
 
-  pub copied_all : (i k : ℕ) (now : List A) → s ≡ min i (length text / 17) → Copied k now → length xs ≤ k → now ≡ words_as f text i (length xs)
-  copied_all i k now a c h =
+  pub copied_all : (k : ℕ) (now : List A) → Copied k now → length xs ≤ k → now ≡ words_as f text s (length xs)
+  copied_all k now c h =
       let e : k ≡ length xs = omega arith in
-      c.1 ∙ rw (e, drop-length xs, append-nil) (words_as_alike f text s i (length xs) (alike text i s a))
+      c.1 ∙ rw (e, drop-length xs, append-nil)
 
 module _ {A : Type 0} (same : A → ℕ → Bool) (text : List ℕ) (s : ℕ) (xs : List A) where
   -- of k elements, `differ` are not their words
@@ -124,7 +96,6 @@ module _ {A : Type 0} (same : A → ℕ → Bool) (text : List ℕ) (s : ℕ) (x
       Compared (differ + 1) (k + 1)
   compared_other d differ k w c h e t = (omega arith, omega arith, omega (arith, one_compared d false k w h e t))
 
-  pub compared_all : (i differ k : ℕ) → s ≡ min i (length text / 17) → Compared differ k → length xs ≤ k → differ ≡ unlike same text i xs
+  pub compared_all : (differ k : ℕ) → Compared differ k → length xs ≤ k → differ ≡ unlike same text s xs
   unfolding unlike
-  compared_all i differ k a c h =
-      sym (add-zero differ) ∙ rw (drop_of_length-le xs h) at c.2 ∙ unlike_alike same text s i xs (alike text i s a)
+  compared_all differ k c h = sym (add-zero differ) ∙ rw (drop_of_length-le xs h) at c.2

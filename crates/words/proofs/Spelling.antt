@@ -8,12 +8,13 @@ use native.Mathlib.Omega.{arith}
 use lib.ListN.{length, get_or, take, drop, length-take, length-drop, drop_of_length-le}
 use lib.Seq.{drop-cons, get_or-take, get_or-drop}
 use lib.Pow.{pow-add, pow_mono}
+use Rattle.std.proofs.Math.Decide.{dec_le}
 use borrow.Author.Tests.{lt-ltb, le-ltb, le-leb, lt-leb}
 use Rattle.words.specs.Words.{hex_digit, no_word, spelled}
 
 -- ---- a digit
 
-pub below_digits : (b : ℕ) → b < 48 → 16 ≡ hex_digit b
+below_digits : (b : ℕ) → b < 48 → 16 ≡ hex_digit b
 unfolding hex_digit
 below_digits b h = rw (lt-leb 48 b h, lt-leb 97 b (omega arith))
 
@@ -21,7 +22,7 @@ pub a_digit : (b : ℕ) → 48 ≤ b → b ≤ 57 → b - 48 ≡ hex_digit b
 unfolding hex_digit
 a_digit b h k = rw (le-leb 48 b h, le-leb b 57 k)
 
-pub between : (b : ℕ) → 57 < b → b < 97 → 16 ≡ hex_digit b
+between : (b : ℕ) → 57 < b → b < 97 → 16 ≡ hex_digit b
 unfolding hex_digit
 between b h k = rw (le-leb 48 b (omega arith), lt-leb b 57 h, lt-leb 97 b k)
 
@@ -29,9 +30,19 @@ pub a_letter : (b : ℕ) → 97 ≤ b → b ≤ 102 → b - 97 + 10 ≡ hex_digi
 unfolding hex_digit
 a_letter b h k = rw (le-leb 48 b (omega arith), lt-leb b 57 (omega arith), le-leb 97 b h, le-leb b 102 k) (omega arith)
 
-pub above_letters : (b : ℕ) → 102 < b → 16 ≡ hex_digit b
+above_letters : (b : ℕ) → 102 < b → 16 ≡ hex_digit b
 unfolding hex_digit
 above_letters b h = rw (le-leb 48 b (omega arith), lt-leb b 57 (omega arith), le-leb 97 b (omega arith), lt-leb b 102 h)
+
+pub no_hex_digit : (b : ℕ) → (48 ≤ b → b ≤ 57 → ⊥) → (97 ≤ b → b ≤ 102 → ⊥) → hex_digit b ≡ 16
+no_hex_digit b n m = sym (go (dec_le 48 b) (dec_le b 57) (dec_le 97 b) (dec_le b 102))
+  where
+    go : Dec (48 ≤ b) → Dec (b ≤ 57) → Dec (97 ≤ b) → Dec (b ≤ 102) → 16 ≡ hex_digit b
+    go (no h) d e f = below_digits b (omega arith)
+    go (yes h) (yes k) e f = absurd (n h k)
+    go (yes h) (no k) (no e) f = between b (omega arith) (omega arith)
+    go (yes h) (no k) (yes e) (yes f) = absurd (m e f)
+    go (yes h) (no k) (yes e) (no f) = above_letters b (omega arith)
 
 -- ---- k digits are below 16 ^ k, so that sixteen fit
 

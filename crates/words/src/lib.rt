@@ -2,26 +2,21 @@
 // hexadecimal reads as all ones: no recorded number or answer is that, only a coordinate may be (a NaN).
 #![tactic(auto)]
 
-ghost use Rattle.std.specs.Prelude.{◌≡◌, ◌+◌, ◌/◌, ◌≤◌, min, eqb, length, take, drop};
+ghost use Rattle.std.specs.Prelude.{◌≡◌, Bool, ℕ, ◌+◌, ◌≤◌, ◌<◌, eqb, length, take, drop, MatchOption};
 ghost use Rattle.words.specs.Words.{hex_digit, spelled, word, ends_at, float_of, low_half, words_as, has_bits, unlike};
 
-// The value of a hexadecimal digit, or 16.
-fn digit(b: u8) -> u64
-    ensures { result ≡ hex_digit b }
+// No `Option`: a word that is missing differs from each recorded number, and each caller would make this of `None`.
+const NO_WORD: u64 = 18446744073709551615;
+
+// The value of a hexadecimal digit.
+fn digit(b: u8) -> Option<u64>
+    ensures { MatchOption result (hex_digit b ≡ 16) (λ d. (d ≡ hex_digit b) × (d < 16)) }
 {
-    if b < b'0' {
-        return 16;
+    match b {
+        b'0'..=b'9' => Some(u64::from(b - b'0')),
+        b'a'..=b'f' => Some(u64::from(b - b'a') + 10),
+        _ => None,
     }
-    if b <= b'9' {
-        return (b - b'0') as u64;
-    }
-    if b < b'a' {
-        return 16;
-    }
-    if b <= b'f' {
-        return (b - b'a') as u64 + 10;
-    }
-    16
 }
 
 // The number that the sixteen bytes from `from` on spell.
@@ -31,10 +26,9 @@ fn parse(text: &[u8], from: usize) -> u64
 {
     let mut value: u64 = 0;
     for k in 0..16 {
-        let d = digit(text[from + k]);
-        if 15 < d {
-            return 18446744073709551615;
-        }
+        let Some(d) = digit(text[from + k]) else {
+            return NO_WORD;
+        };
         value = value * 16 + d;
     }
     value
@@ -45,112 +39,90 @@ pub fn word_at(text: &[u8], i: usize) -> u64
     ensures { result ≡ word text.now i }
 {
     if i < text.len() / 17 {
-        return parse(text, 17 * i);
+        parse(text, 17 * i)
+    } else {
+        NO_WORD
     }
-    18446744073709551615
 }
 
 // Whether the text has i words and nothing behind them.
 pub fn ends_at(text: &[u8], i: usize) -> bool
     ensures { result ≡ ends_at text.now i }
 {
-    if text.len() / 17 != i {
-        return false;
+    text.len() / 17 == i && text.len() % 17 == 0
+}
+
+// What a word can be recorded for.
+pub trait Recorded: Copy {
+    // what a word is taken as, and whether a value is what a word says
+    ghost of_word: { ℕ → Self };
+
+    ghost is_word: { Self → ℕ → Bool };
+
+    fn of_word(word: u64) -> Self
+        ensures { result ≡ of_word word };
+
+    fn is_word(self, word: u64) -> bool
+        ensures { result ≡ is_word self word };
+}
+
+// The word is a bit pattern.
+impl Recorded for f64 {
+    ghost of_word = { float_of };
+
+    ghost is_word = { has_bits };
+
+    // Every NaN pattern is the one NaN.
+    fn of_word(word: u64) -> f64 {
+        if 9218868437227405312 < word % 9223372036854775808 {
+            return 0.0 / 0.0;
+        }
+        f64::from_bits(word)
     }
-    text.len() % 17 == 0
-}
 
-// i, or the number of words where i is above it: the words from there on are missing too.
-fn within(text: &[u8], i: usize) -> usize
-    ensures { result ≡ min i (length text.now / 17) }
-{
-    let n = text.len() / 17;
-    if i < n {
-        return i;
-    }
-    n
-}
-
-// The float of a bit pattern; every NaN pattern is the one NaN.
-fn float_of(bits: u64) -> f64
-    ensures { result ≡ float_of bits }
-{
-    if 9218868437227405312 < bits % 9223372036854775808 {
-        return 0.0 / 0.0;
-    }
-    f64::from_bits(bits)
-}
-
-// Whether x is a number, or an infinity, with this pattern.
-fn has_bits(x: f64, bits: u64) -> bool
-    ensures { result ≡ has_bits x bits }
-{
-    if x == x {
-        f64::to_bits(x) == bits
-    } else {
-        false
-    }
-}
-
-fn wide(x: u32) -> u64
-    ensures { result ≡ x }
-{
-    x as u64
-}
-
-// Each element becomes a float: the words from word i on.
-pub fn copy_floats(text: &[u8], i: usize, xs: &mut [f64])
-    ensures { xs.new ≡ words_as float_of text.now i (length xs.old) }
-{
-    let start = within(text, i);
-    let mut k = 0;
-    while k < xs.len() {
-        xs[k] = float_of(word_at(text, start + k));
-        k += 1;
+    // Whether it is a number, or an infinity, with this pattern.
+    fn is_word(self, word: u64) -> bool {
+        if self == self {
+            f64::to_bits(self) == word
+        } else {
+            false
+        }
     }
 }
 
-// Each element becomes a number: the low halves of the words from word i on.
-pub fn copy_numbers(text: &[u8], i: usize, xs: &mut [u32])
-    ensures { xs.new ≡ words_as low_half text.now i (length xs.old) }
+// The word's low half is the number.
+impl Recorded for u32 {
+    ghost of_word = { low_half };
+
+    ghost is_word = { eqb };
+
+    fn of_word(word: u64) -> u32 {
+        (word % 4294967296) as u32
+    }
+
+    fn is_word(self, word: u64) -> bool {
+        u64::from(self) == word
+    }
+}
+
+// Each element becomes what its word says: the words from word i on.
+pub fn copy_words<T: Recorded>(text: &[u8], i: usize, xs: &mut [T])
+    ensures { xs.new ≡ words_as T.of_word text.now i (length xs.old) }
 {
-    let start = within(text, i);
-    let mut k = 0;
-    while k < xs.len() {
-        let w = word_at(text, start + k);
-        xs[k] = (w % 4294967296) as u32;
-        k += 1;
+    for (k, x) in xs.iter_mut().enumerate() {
+        *x = T::of_word(word_at(text, i.saturating_add(k)));
     }
 }
 
 // How many of the elements are not the words from word i on.
-pub fn floats_differ(text: &[u8], i: usize, xs: &[f64]) -> usize
-    ensures { result ≡ unlike has_bits text.now i xs.now }
+pub fn words_differ<T: Recorded>(text: &[u8], i: usize, xs: &[T]) -> usize
+    ensures { result ≡ unlike T.is_word text.now i xs.now }
 {
-    let start = within(text, i);
     let mut differ: usize = 0;
-    let mut k = 0;
-    while k < xs.len() {
-        if !has_bits(xs[k], word_at(text, start + k)) {
+    for (k, x) in xs.iter().enumerate() {
+        if !x.is_word(word_at(text, i.saturating_add(k))) {
             differ += 1;
         }
-        k += 1;
-    }
-    differ
-}
-
-// How many of the elements are not the words from word i on.
-pub fn numbers_differ(text: &[u8], i: usize, xs: &[u32]) -> usize
-    ensures { result ≡ unlike eqb text.now i xs.now }
-{
-    let start = within(text, i);
-    let mut differ: usize = 0;
-    let mut k = 0;
-    while k < xs.len() {
-        if wide(xs[k]) != word_at(text, start + k) {
-            differ += 1;
-        }
-        k += 1;
     }
     differ
 }

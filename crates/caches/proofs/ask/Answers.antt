@@ -9,10 +9,10 @@ use Rattle.caches.proofs.ask.Goals as goal
 
 pub nearest-requires : goal.nearest-requires
 nearest-requires c =
-    (c.requires.3, c.requires.2, rw c.point_at.ensures (point_on c.args.points.now c.args.v.0 c.requires.1 c.requires.0))
+    (c.requires.2, rw c.point_at.ensures (point_on c.args.frame.now.points.now c.args.v.0 c.requires.1 c.requires.0))
 
 pub returns : goal.returns
 unfolding ask_path
 returns c =
     let a = c.args in
-    c.nearest.ensures ∙ ap (λ (q : Point). nearest a.g (points a.path.now a.count) q) c.point_at.ensures
+    c.nearest.ensures ∙ ap (λ (q : Point). nearest a.frame.now.grid.spatial (points a.path.now.points.now a.path.now.count) q) c.point_at.ensures

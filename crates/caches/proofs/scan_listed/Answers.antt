@@ -10,7 +10,7 @@ scan_cell-requires c =
     let laid = p.0.prepared.plated.laid in
     let l = c.loop-i in (
       still_querying _ _ _ laid _ _ _ _ l.invariant.reached _ _ _ _ p.0,
-      omega (arith, l.invariant.reached.below (c.args.lay.list + l.i) (omega (arith, laid, p.1)), p.2 l.i c.loop-i-test.true),
+      omega (arith, l.invariant.reached.below (c.args.frame.now.layout.list + l.i) (omega (arith, laid, p.1)), p.2 l.i c.loop-i-test.true),
     )
 
 pub loop-i-preserved : goal.loop-i-preserved
@@ -19,9 +19,9 @@ loop-i-preserved c =
     let p = c.requires in
     let laid = p.0.prepared.plated.laid in
     let l = c.loop-i in
-    let n = list_of_length a.lay a.work.now a.cells (omega (arith, laid, p.1)) in
+    let n = list_of_length a.frame.now.layout a.work.now a.cells (omega (arith, laid, p.1)) in
     walked_step _ _ _ _ _ _ _ laid _ _ l.i l.invariant (omega (arith, n)) _
-    (l.invariant.reached.below (a.lay.list + l.i) (omega (arith, laid, p.1)) ∙ sym (list_of_at a.lay a.work.now a.cells l.i c.loop-i-test.true))
+    (l.invariant.reached.below (a.frame.now.layout.list + l.i) (omega (arith, laid, p.1)) ∙ sym (list_of_at a.frame.now.layout a.work.now a.cells l.i c.loop-i-test.true))
     _ _ c.scan_cell.ensures c.scan_cell.auto.work c.scan_cell.auto.distances
 
 pub returns : goal.returns
@@ -29,5 +29,5 @@ returns c =
     let a = c.args in
     let p = c.requires in
     let laid = p.0.prepared.plated.laid in
-    let n = list_of_length a.lay a.work.now a.cells (omega (arith, laid, p.1)) in
+    let n = list_of_length a.frame.now.layout a.work.now a.cells (omega (arith, laid, p.1)) in
     walked_end _ _ _ _ _ _ _ laid _ _ _ c.loop-i.invariant (omega (arith, n, c.loop-i-test.false))

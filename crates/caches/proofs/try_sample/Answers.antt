@@ -9,13 +9,13 @@ returns-then-owner-eq0 c = moved_none _ _ _ _ _ _ c.if-owner-eq0.true
 
 pub returns-then-work-a-eq0 : goal.returns-then-work-a-eq0
 returns-then-work-a-eq0 c =
-    let o : ℕ = from c.args.work.now c.args.lay.owners c.args.v.0 in
+    let o : ℕ = from c.args.work.now c.args.frame.now.layout.owners c.args.v.0 in
     let some : o ≡ suc (o - 1) = omega (arith, c.if-owner-eq0.false) in
     moved_left _ _ _ _ _ _ (o - 1) some c.if-work-a-eq0.true
 
 pub returns : goal.returns
 returns c =
-    let o : ℕ = from c.args.work.now c.args.lay.owners c.args.v.0 in
+    let o : ℕ = from c.args.work.now c.args.frame.now.layout.owners c.args.v.0 in
     let some : o ≡ suc (o - 1) = omega (arith, c.if-owner-eq0.false) in
     let few = c.requires.0.prepared.owners c.args.v.0 c.requires.1 in
     let laid = c.requires.0.prepared.plated.laid in

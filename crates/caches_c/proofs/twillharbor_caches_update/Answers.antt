@@ -34,14 +34,14 @@ passed xs ns number before count work distances entries n size e f p s =
       entries_long = u.2;
     }
 
-pub grid_for-g-requires : goal.grid_for-g-requires
-grid_for-g-requires c =
+pub grid_for-grid-requires : goal.grid_for-grid-requires
+grid_for-grid-requires c =
     (passed _ _ _ _ _ _ _ _ _ _ c.accepted_points-n.ensures c.contour_length.ensures c.if-not-has_path.ensures c.if-not-has_slices.ensures).grid.sound
 
 pub caches_around-lay-requires : goal.caches_around-lay-requires
 caches_around-lay-requires c =
     let w = passed _ _ _ _ _ _ _ _ _ _ c.accepted_points-n.ensures c.contour_length.ensures c.if-not-has_path.ensures c.if-not-has_slices.ensures in
-    (w.grid.plate, c.grid_for-g.ensures.1, w.some, w.earlier, omega (arith, w.grid.points, w.fits), w.distances_long, w.work_long)
+    (w.grid.plate, w.some, w.earlier, omega (arith, w.grid.points, w.fits), w.distances_long, w.work_long)
 
 pub copy_entries-requires : goal.copy_entries-requires
 copy_entries-requires c =
@@ -53,6 +53,6 @@ pub returns : goal.returns
 returns c =
     let a = c.caches_around-lay.ensures in (
       yes_both _ _ (path_of _ _ _ _ _ _ _ c.if-not-has_path.ensures c.accepted_points-n.ensures c.contour_length.ensures) c.if-not-has_slices.ensures,
-      λ t p e f. others_shown _ _ _ _ _ p _ _ _ _ _ c.grid_for-g.ensures.0 (a.2 p e f) c.copy_entries.ensures,
+      λ t p e f. others_shown _ _ _ _ _ p _ _ _ _ _ c.grid_for-grid.ensures (a.2 p e f) c.copy_entries.ensures,
       λ f. absurd (true≢false f),
     )

@@ -1,5 +1,5 @@
 -- The lead so far, after the contours that are left, is the foremost.
-use Rattle.std.proofs.Common.{◌≡◌, ◌≤◌}
+use Rattle.std.specs.Prelude.{◌≡◌, ◌<◌, IfSome}
 use Rattle.rules.specs.Tools.{foremost}
 use Rattle.layout.specs.Parts.{from}
 use Rattle.choosing.specs.Leader.{closer_by, layer_by, leader_of}
@@ -9,7 +9,7 @@ use Rattle.choosing.proofs.closest.Given as goal
 
 abbrev pub invariant-loop-j : goal.invariant-loop-j
 invariant-loop-j l =
-    (l.best ≤ l.lay.contours)
+    (IfSome l.lead (λ best. best < l.lay.contours))
     × (let waits = from l.work l.lay.waiting in
     let n = l.lay.contours in
-    led_from l.layers l.distances waits n l.j (leader_of n l.best) ≡ foremost (layer_by l.layers) (closer_by l.distances) (waiters_from waits 0 n))
+    led_from l.layers l.distances waits n l.j (leader_of l.lead) ≡ foremost (layer_by l.layers) (closer_by l.distances) (waiters_from waits 0 n))

@@ -1,36 +1,38 @@
 -- One cut more is put behind the last.
-use Rattle.std.proofs.Common.{◌≡◌, ◌+◌, ◌-◌, [], ◌∷◌, ◌++◌, sym, arith}
+use Rattle.std.proofs.Common.{◌≡◌, ◌+◌, ◌-◌, [], ◌∷◌, ◌++◌, map, ap, ◌∙◌, arith, Ok}
+use Rattle.rules.specs.Tools.{down_to}
 use Rattle.rules.specs.RetraceAndMarks.{cut_down}
-use Rattle.path.specs.Accepted.{point_on}
-use Rattle.path_points.specs.Drawing.{drawing_then}
-use Rattle.emission.proofs.Emitting.{down_to_lem, down_to_more}
+use Rattle.path_points.specs.Writers.{by_then, by_full}
+use Rattle.emission.proofs.Emitting.{down_to_lem, down_to_more, down_to_rest}
 use Rattle.emission.proofs.cut_down.Goals as goal
 
-pub put-k-requires : goal.put-k-requires
-put-k-requires c =
-    let l = c.loop-left in
-    let on = point_on c.args.points.now (c.args.v.0 + (l.left - 1)) c.requires.1 (omega (arith, c.requires, c.loop-left-test.true, l.invariant.0)) in
-    let e = c.point_at-p.ensures in
-    (l.invariant.1.pen, rw e on.0, rw e on.1)
-
-pub loop-left-preserved : goal.loop-left-preserved
+pub loop-i-preserved : goal.loop-i-preserved
 unfolding cut_down
-loop-left-preserved c =
-    let k = c.put-k in
+loop-i-preserved c =
     let v = c.args.v.0 in
     let n = c.args.n in
-    let l = c.loop-left in
-    let left = l.left - 1 in (
-      omega (arith, l.invariant.0),
-      drawing_then _ _ _ _ _ _ _ _ _ _ _ _ l.invariant.1 _ _ _ _ k.ensures.0 k.ensures.1 k.auto.path k.auto.marks k.auto.work
-          (λ ss. ss ++ cut_down (v + left) ∷ []) (down_to_lem v n left) (k.ensures.2 _ (v + left) (sym c.point_at-p.ensures))
-          (down_to_more v n left l.left (omega (arith, c.loop-left-test.true)) l.invariant.0),
-    )
+    let i = c.loop-i.i in
+    let k = c.in_ok-cut.ensures in
+    by_then c.args.writer.now c.loop-i.writer c.cut.new.writer (Ok tt) _ (down_to_lem v n i) (λ ss. ss ++ cut_down (v + (i - 1)) ∷ []) (down_to_lem v n (i - 1))
+    c.loop-i.invariant k.same k.written k.adds (down_to_more v n (i - 1) i (omega (arith, c.loop-i-test.true)) c.loop-i.auto.i)
 
-pub returns : goal.returns
-returns c =
-    let d = c.loop-left.invariant.1 in
-    let e : c.loop-left.left ≡ 0 = omega (arith, c.loop-left-test.false) in
+pub returns-in_err-cut-clause-adds : goal.returns-in_err-cut-clause-adds
+unfolding cut_down
+returns-in_err-cut-clause-adds c =
+    let v = c.args.v.0 in
+    let n = c.args.n in
+    let i = c.loop-i.i in
+    let j = i - 1 in
+    let k = c.in_err-cut in
+    let rest = map cut_down (down_to v j) in
+    by_full c.args.writer.now c.loop-i.writer c.cut.new.writer k.field-0.0 _ (down_to_lem v n i) (λ ss. ss ++ cut_down (v + j) ∷ [])
+    (λ ss. ss ++ map cut_down (down_to v n)) (λ ss. rest) c.loop-i.invariant k.ensures.same k.ensures.adds
+    (λ ss. down_to_rest v n j (omega (arith, c.loop-i.auto.i)) ss ∙ ap (λ r. r ++ rest) (down_to_more v n j i (omega (arith, c.loop-i-test.true)) c.loop-i.auto.i ss))
+    _ c.from_residual.ensures.0
+
+pub returns-clause-adds : goal.returns-clause-adds
+returns-clause-adds c =
+    let e : c.loop-i.i ≡ 0 = omega (arith, c.loop-i-test.false) in
     let a : c.args.v.0 + 0 ≡ c.args.v.0 = omega arith in
     let b : c.args.n - 0 ≡ c.args.n = omega arith in
-    (d.pen, d.kept, rw (e, a, b) at d.grows)
+    rw (e, a, b) at c.loop-i.invariant.adds

@@ -1,13 +1,8 @@
--- The cuts so far are written, and `left` are left.
-use Rattle.std.proofs.Common.{◌≤◌}
-use Rattle.path_points.specs.Drawing.{Drawing}
+-- The cuts so far are written, and those that begin below v + i are left.
+use Rattle.std.proofs.Common.{Ok}
+use Rattle.path_points.specs.Writers.{DrawingBy}
 use Rattle.emission.proofs.Emitting.{down_to_lem}
 use Rattle.emission.proofs.cut_down.Given as goal
 
-abbrev pub invariant-loop-left : goal.invariant-loop-left
-invariant-loop-left l =
-    (l.left ≤ l.n)
-    × (Drawing l.points l.g l.room l.count l.fn.path l.fn.marks l.fn.work l.k l.path l.marks l.work (down_to_lem l.v.0 l.n l.left))
-
-abbrev pub decreases-loop-left : goal.decreases-loop-left
-decreases-loop-left l = l.left
+abbrev pub invariant-loop-i : goal.invariant-loop-i
+invariant-loop-i l = DrawingBy l.points l.fn.writer l.writer (Ok tt) (down_to_lem l.v.0 l.n l.i)

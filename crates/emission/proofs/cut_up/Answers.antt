@@ -1,28 +1,31 @@
 -- One cut more is put behind the last.
-use Rattle.std.proofs.Common.{◌≡◌, ◌+◌, [], ◌∷◌, ◌++◌, sym, arith}
-use Rattle.path.specs.Accepted.{point_on}
-use Rattle.path_points.specs.Drawing.{drawing_then}
-use Rattle.emission.proofs.Emitting.{cut, up_to, up_to_more}
+use Rattle.std.proofs.Common.{◌≡◌, ◌+◌, ◌-◌, [], ◌∷◌, ◌++◌, map, ap, ◌∙◌, arith, Ok}
+use Rattle.rules.specs.Tools.{up_from}
+use Rattle.rules.specs.RetraceAndMarks.{cut_up}
+use Rattle.path_points.specs.Writers.{by_then, by_full}
+use Rattle.emission.proofs.Emitting.{cut, up_to, up_to_more, up_to_rest}
 use Rattle.emission.proofs.cut_up.Goals as goal
-
-pub put-k-requires : goal.put-k-requires
-put-k-requires c =
-    let on = point_on c.args.points.now (c.args.v.0 + c.loop-i.i + 1) c.requires.1 (omega (arith, c.requires, c.loop-i-test.true)) in
-    let e = c.point_at-p.ensures in
-    (c.loop-i.invariant.0.pen, rw e on.0, rw e on.1)
 
 pub loop-i-preserved : goal.loop-i-preserved
 loop-i-preserved c =
-    let k = c.put-k in
     let v = c.args.v.0 in
-    let low = v + c.loop-i.i in (
-      drawing_then _ _ _ _ _ _ _ _ _ _ _ _ c.loop-i.invariant.0 _ _ _ _ k.ensures.0 k.ensures.1 k.auto.path k.auto.marks k.auto.work
-          (λ ss. ss ++ cut low ∷ []) (up_to v (c.loop-i.i + 1)) (k.ensures.2 _ (low + 1) (sym c.point_at-p.ensures)) (up_to_more v c.loop-i.i),
-      omega (arith, c.loop-i.invariant.1, k.ensures.3),
-    )
+    let i = c.loop-i.i in
+    let k = c.in_ok-cut.ensures in
+    by_then c.args.writer.now c.loop-i.writer c.cut.new.writer (Ok tt) _ (up_to v i) (λ ss. ss ++ cut (v + i) ∷ []) (up_to v (i + 1))
+    c.loop-i.invariant k.same k.written k.adds (up_to_more v i)
 
-pub returns : goal.returns
-returns c =
-    let e : c.loop-i.i ≡ c.args.n = omega arith in
-    let d = c.loop-i.invariant.0 in
-    (d.pen, d.kept, rw e at d.grows, c.loop-i.invariant.1)
+pub returns-in_err-cut-clause-adds : goal.returns-in_err-cut-clause-adds
+returns-in_err-cut-clause-adds c =
+    let v = c.args.v.0 in
+    let n = c.args.n in
+    let i = c.loop-i.i in
+    let k = c.in_err-cut in
+    let rest = map cut_up (up_from (v + (i + 1)) (n - (i + 1))) in
+    by_full c.args.writer.now c.loop-i.writer c.cut.new.writer k.field-0.0 _ (up_to v i) (λ ss. ss ++ cut (v + i) ∷ []) (up_to v n) (λ ss. rest)
+    c.loop-i.invariant k.ensures.same k.ensures.adds (λ ss. up_to_rest v (i + 1) n (omega (arith, c.loop-i-test.true)) ss ∙ ap (λ r. r ++ rest) (up_to_more v i ss))
+    _ c.from_residual.ensures.0
+
+pub returns-clause-adds : goal.returns-clause-adds
+returns-clause-adds c =
+    let e : c.args.n ≡ c.loop-i.i = omega (arith, c.loop-i-test.false, c.loop-i.auto.i-end) in
+    rw e c.loop-i.invariant.adds

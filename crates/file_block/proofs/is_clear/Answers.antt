@@ -1,16 +1,13 @@
--- Each turn passes a zero; a byte that is none decides, and so does the end.
-use Rattle.std.proofs.Common.{◌∙◌, sym, arith}
-use Rattle.file_block.specs.Testing.{clear_more, clear_not, clear_all}
+-- All the bytes are zeros where their number is 0.
+use Rattle.std.proofs.Common.{◌∙◌, rules}
+use borrow.Author.Tests.{tests}
+use Rattle.std.proofs.lemmas.Iterator.{YieldsList-from_slice}
+use Rattle.std.proofs.lemmas.Iterator.Search.{all_from_yields_List}
+use Rattle.std.specs.Prelude.{eqb}
+use Rattle.file_block.specs.Parts.{all_zero}
 use Rattle.file_block.proofs.is_clear.Goals as goal
 
-pub returns-then-bytes-k-ne0 : goal.returns-then-bytes-k-ne0
-returns-then-bytes-k-ne0 c =
-    sym (c.loop-k.invariant.2 ∙ clear_not c.args.bytes.now c.loop-k.k c.requires.0 c.loop-k-test.true c.if-bytes-k-ne0.true)
-
-pub loop-k-preserved : goal.loop-k-preserved
-loop-k-preserved c =
-    let l = c.loop-k in
-    (omega arith, omega arith, l.invariant.2 ∙ clear_more c.args.bytes.now l.k c.requires.0 c.loop-k-test.true c.if-bytes-k-ne0.false)
-
 pub returns : goal.returns
-returns c = sym (c.loop-k.invariant.2 ∙ clear_all c.args.bytes.now c.loop-k.k c.loop-k-test.false)
+returns c =
+    all_from_yields_List (λ b. eqb b 0) _ _ _ c.all.ensures.ran (YieldsList-from_slice c.args.bytes.now cc) (λ x b q k. search (rules, tests))
+    ∙ all_zero c.args.bytes.now

@@ -1,11 +1,21 @@
--- `float_c::is_non_negative` meets its contract.
-use mathlib.Core.Path.{sym, subst}
+-- `float_c::is_non_negative`: of a finite number the sign is asked.
+use mathlib.Core.Path.{◌≡◌, refl, subst, ◌∙◌}
+use mathlib.Core.Bool.{not}
 use lib.Dec.{T}
-use Rattle.rounding.specs.Magnitude.{finite_not_nan, sign_bit}
+use lib.Ieee.{Float, nan, inf, fin}
+use lib.Ieee.Scale.{finite}
+use Rattle.std.specs.Float.{is_sign_negative}
+use Rattle.rounding.specs.Magnitude.{non_negative, finite_not_nan}
 use Rattle.float_c.proofs.is_non_negative.Goals as goal
 
-pub float_to_bits-result : goal.float_to_bits-result
-float_to_bits-result c = finite_not_nan c.args.x (subst T c.if-is_finite.ensures tt)
+by_sign : (x : Float) → T (finite x) → not (is_sign_negative x) ≡ non_negative x
+unfolding is_sign_negative
+by_sign nan h = absurd h
+by_sign (inf s) h = absurd h
+by_sign (fin s m e) h = refl
+
+pub is_sign_positive-requires : goal.is_sign_positive-requires
+is_sign_positive-requires c = finite_not_nan c.args.x (subst T c.if-is_finite.ensures tt)
 
 pub returns-then-is_finite : goal.returns-then-is_finite
-returns-then-is_finite c = sym (sign_bit c.args.x (subst T (sym c.well_formed.0.1) tt) (subst T c.if-is_finite.ensures tt))
+returns-then-is_finite c = c.is_sign_positive.ensures ∙ by_sign c.args.x (subst T c.if-is_finite.ensures tt)

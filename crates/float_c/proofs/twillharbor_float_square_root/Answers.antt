@@ -1,6 +1,6 @@
 -- `float_c::twillharbor_float_square_root` meets its contract.
 use mathlib.Core.Path.{sym}
-use lib.Ieee.{of_bits, div}
+use lib.Ieee.{of_bits}
 use Rattle.rules.specs.Tools.{pick}
 use Rattle.float_c.specs.Domain.{square_root}
 use Rattle.float_c.proofs.twillharbor_float_square_root.Goals as goal
@@ -9,6 +9,6 @@ pub returns-then-is_non_negative : goal.returns-then-is_non_negative
 unfolding square_root pick
 returns-then-is_non_negative c = rw (sym c.if-is_non_negative.ensures) c.square_root.ensures
 
-pub returns : goal.returns
-unfolding square_root pick of_bits div
-returns c = rw (sym c.if-is_non_negative.ensures)
+pub returns-else-is_non_negative : goal.returns-else-is_non_negative
+unfolding square_root pick of_bits
+returns-else-is_non_negative c = rw (sym c.if-is_non_negative.ensures)

@@ -3,10 +3,6 @@ use Rattle.std.proofs.Common.{arith}
 use Rattle.rules.specs.GridAndNearest.{index_along}
 use Rattle.grid.proofs.index_along.Goals as goal
 
-pub returns-then-index-cells : goal.returns-then-index-cells
+pub returns : goal.returns
 unfolding index_along
-returns-then-index-cells c = omega (arith, c.truncated-index.ensures)
-
-pub returns-else-index-cells : goal.returns-else-index-cells
-unfolding index_along
-returns-else-index-cells c = omega (arith, c.truncated-index.ensures)
+returns c = omega (arith, c.truncated-index.ensures, c.min.ensures)

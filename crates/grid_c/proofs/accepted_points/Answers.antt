@@ -1,14 +1,17 @@
 -- `grid_c::accepted_points`: what the check of the contours answers, as a number.
-use Rattle.std.proofs.Common.{ap}
-use Rattle.plate.specs.Answer.{checked_answer}
+use Rattle.std.proofs.Common.{◌≡◌, refl, ap, ◌∙◌, ℕ, Result, Ok, Err}
+use Rattle.std.specs.Result.{result_unwrap_or}
+use Rattle.rules.specs.HandedOver.{answer_of, refusal}
+use Rattle.rules.specs.declared.Refusal.{Refusal}
 use Rattle.grid_c.specs.Passing.{refused_none}
 use Rattle.grid_c.specs.Results.{given, accepted}
 use Rattle.grid_c.proofs.accepted_points.Goals as goal
 
-pub returns-in_default : goal.returns-in_default
-unfolding accepted checked_answer
-returns-in_default c = refused_none _ _ c.in_default.ensures
+given_or : (r : Result ℕ Refusal) → result_unwrap_or r 0 ≡ given (answer_of r)
+unfolding given answer_of
+given_or (Ok n) = refl
+given_or (Err e) = refused_none e (refusal e) refl
 
 pub returns : goal.returns
-unfolding accepted given checked_answer
-returns c = ap given c.in-Sound.ensures
+unfolding accepted
+returns c = c.unwrap_or.ensures ∙ given_or c.check_contours.result ∙ ap given c.check_contours.ensures

@@ -1,22 +1,35 @@
 -- `grid_c::has_query_room`: the four tests of the definition.
-use Rattle.std.proofs.Common.{sym}
-use borrow.Author.Tests.{le-leb, lt-leb}
-use Rattle.grid_c.specs.Results.{has_query_room}
+use Rattle.std.proofs.Common.{◌≡◌, sym, ◌∙◌, ◌&&◌, leb}
+use Rattle.grid_c.specs.Results.{has_room, has_query_room}
 use Rattle.grid_c.proofs.has_query_room.Goals as goal
+use Rattle.grid_c.proofs.has_query_room.Goals.{then-has_room, else-has_room, then-n-squared, else-n-squared}
 
-pub returns-then-not-has_room : goal.returns-then-not-has_room
+pub returns-then-count-n : goal.returns-then-count-n
 unfolding has_query_room
-returns-then-not-has_room c = rw (sym c.if-not-has_room.ensures)
+returns-then-count-n c =
+    let a : c.if-has_room.value ≡ (has_room c.args.n c.args.places && leb c.args.n c.args.squared) =
+    elim c.if-has_room.branch [
+      | then-has_room w ↦ rw (sym w.if-has_room.ensures) w.value-is
+      | else-has_room w ↦ rw (sym w.if-has_room.ensures) (w.value-is ∙ w.if-has_room.false)
+    ] in
+    let b : c.if-n-squared.value ≡ (c.if-has_room.value && leb c.args.count c.args.n) =
+    elim c.if-n-squared.branch [
+      | then-n-squared w ↦ rw w.if-n-squared.true w.value-is
+      | else-n-squared w ↦ rw w.if-n-squared.false (w.value-is ∙ w.if-n-squared.false)
+    ] in
+    rw (← a, ← b, c.if-count-n.true)
 
-pub returns-then-squared-n : goal.returns-then-squared-n
+pub returns-else-count-n : goal.returns-else-count-n
 unfolding has_query_room
-returns-then-squared-n c = rw (sym c.if-not-has_room.ensures, lt-leb _ _ c.if-squared-n.true)
-
-pub returns-then-n-count : goal.returns-then-n-count
-unfolding has_query_room
-returns-then-n-count c =
-    rw (sym c.if-not-has_room.ensures, le-leb _ _ c.if-squared-n.false, lt-leb _ _ c.if-n-count.true)
-
-pub returns : goal.returns
-unfolding has_query_room
-returns c = rw (sym c.if-not-has_room.ensures, le-leb _ _ c.if-squared-n.false, le-leb _ _ c.if-n-count.false)
+returns-else-count-n c =
+    let a : c.if-has_room.value ≡ (has_room c.args.n c.args.places && leb c.args.n c.args.squared) =
+    elim c.if-has_room.branch [
+      | then-has_room w ↦ rw (sym w.if-has_room.ensures) w.value-is
+      | else-has_room w ↦ rw (sym w.if-has_room.ensures) (w.value-is ∙ w.if-has_room.false)
+    ] in
+    let b : c.if-n-squared.value ≡ (c.if-has_room.value && leb c.args.count c.args.n) =
+    elim c.if-n-squared.branch [
+      | then-n-squared w ↦ rw w.if-n-squared.true w.value-is
+      | else-n-squared w ↦ rw w.if-n-squared.false (w.value-is ∙ w.if-n-squared.false)
+    ] in
+    rw (← a, ← b, c.if-count-n.false)

@@ -8,8 +8,8 @@ pub loop-k-preserved : goal.loop-k-preserved
 loop-k-preserved c =
     let l = c.loop-k in
     let i = c.insert in (
-      rw (i.ensures, c.point_at-p.ensures) (ready_next _ _ _ l.k c.requires.0 c.requires.1 l.invariant.0 (omega arith) (omega arith)),
+      rw (i.ensures, c.path_point-p.ensures) (ready_next _ _ _ l.k c.args.g.sane c.requires.0 l.invariant.0 (omega arith) (omega arith)),
       omega arith,
       i.auto.work ∙ l.invariant.2,
-      λ j m. rw i.ensures (inserted_kept _ _ l.k _ c.requires.0 j (omega arith)) ∙ l.invariant.3 j m,
+      λ j m. rw i.ensures (inserted_kept _ _ l.k _ c.args.g.sane j (omega arith)) ∙ l.invariant.3 j m,
     )

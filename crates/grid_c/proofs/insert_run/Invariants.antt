@@ -6,4 +6,4 @@ use Rattle.grid_c.proofs.insert_run.Given as goal
 
 abbrev pub invariant-loop-k : goal.invariant-loop-k
 invariant-loop-k l =
-    Ready l.g l.points l.work l.k × (l.k ≤ l.count) × (length l.work ≡ length l.initial.work) × KeptFrom (2916 + l.count) l.initial.work l.work
+    Ready l.g.spatial l.path.points.now l.work l.k × (l.k ≤ l.path.count) × (length l.work ≡ length l.initial.work) × KeptFrom (2916 + l.path.count) l.initial.work l.work

@@ -10,5 +10,5 @@ pub loop-v-preserved : goal.loop-v-preserved
 unfolding cell_at cell_number
 loop-v-preserved c =
     let k = c.cell_of.ensures in
-    writing_next _ _ _ _ c.loop-v.v c.loop-v.invariant c.requires.2 c.loop-v-test.true _
+    writing_next _ _ _ _ c.loop-v.v c.loop-v.invariant c.requires.1 c.loop-v-test.true _
     (rw (c.cell_number.ensures.0, k.0, k.1, c.point_at-p.ensures))

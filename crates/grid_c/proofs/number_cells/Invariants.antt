@@ -5,4 +5,4 @@ use Rattle.grid_c.proofs.Writing.{Writing}
 use Rattle.grid_c.proofs.number_cells.Given as goal
 
 abbrev pub invariant-loop-v : goal.invariant-loop-v
-invariant-loop-v l = Writing (cell_at (at l.points) l.g) l.n l.initial.cells l.cells l.v
+invariant-loop-v l = Writing (cell_at (at l.points) l.g.spatial) l.n l.initial.cells l.cells l.v

@@ -12,14 +12,14 @@ loop-v-init c = (writing_start _ _ _, writing_start _ _ _)
 
 pub nearest-answer-requires : goal.nearest-answer-requires
 nearest-answer-requires c =
-    let on = point_on c.args.points.now c.loop-v.v c.requires.1 (omega arith) in
-    (c.requires.3, c.requires.0, rw c.point_at-q.ensures on)
+    let on = point_on c.args.path.now.points.now c.loop-v.v c.requires.0 (omega arith) in
+    (c.requires.2, rw c.point_at-q.ensures on)
 
 pub place_number-requires : goal.place_number-requires
 unfolding ask ask_path
 place_number-requires c =
-    let below = ask_below c.args.g c.args.points.now c.args.count c.loop-v.v in
-    rw (c.nearest-answer.ensures, c.point_at-q.ensures) (omega (arith, below, c.requires.3.path_long, c.requires.2))
+    let below = ask_below c.args.g.spatial c.args.path.now.points.now c.args.path.now.count c.loop-v.v in
+    rw (c.nearest-answer.ensures, c.point_at-q.ensures) (omega (arith, below, c.requires.2.path_long, c.requires.1))
 
 pub loop-v-preserved : goal.loop-v-preserved
 unfolding ask ask_path
@@ -28,6 +28,6 @@ loop-v-preserved c =
     let t = c.loop-v-test.true in
     let p = c.point_at-q.ensures in
     let a = c.nearest-answer.ensures in (
-      writing_next _ _ _ _ l.v l.invariant.0 c.requires.4 t _ (c.place_number.ensures ∙ ap place_number (rw (a, p))),
-      writing_next _ _ _ _ l.v l.invariant.1 c.requires.5 t _ (c.squared_number.ensures ∙ ap squared_number (rw (a, p))),
+      writing_next _ _ _ _ l.v l.invariant.0 c.requires.3 t _ (c.place_number.ensures ∙ ap place_number (rw (a, p))),
+      writing_next _ _ _ _ l.v l.invariant.1 c.requires.4 t _ (c.squared_number.ensures ∙ ap squared_number (rw (a, p))),
     )

@@ -5,5 +5,5 @@ use Rattle.grid_c.proofs.query_all.Given as goal
 
 abbrev pub invariant-loop-v : goal.invariant-loop-v
 invariant-loop-v l =
-    Writing (λ u. place_number (ask l.g l.points l.count u)) l.n l.initial.places l.places l.v
-    × Writing (λ u. squared_number (ask l.g l.points l.count u)) l.n l.initial.squared l.squared l.v
+    Writing (λ u. place_number (ask l.g.spatial l.path.points.now l.path.count u)) l.n l.initial.places l.places l.v
+    × Writing (λ u. squared_number (ask l.g.spatial l.path.points.now l.path.count u)) l.n l.initial.squared l.squared l.v

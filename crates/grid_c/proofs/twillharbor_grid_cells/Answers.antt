@@ -15,12 +15,12 @@ grid_for-g-requires c =
 pub number_cells-requires : goal.number_cells-requires
 number_cells-requires c =
     let w = room_told _ _ _ c.accepted_points-n.ensures _ (sym c.if-not-has_room.ensures) in
-    (c.grid_for-g.ensures.1, omega (arith, w.0.half), w.1)
+    (omega (arith, w.0.half), w.1)
 
 pub returns : goal.returns
 unfolding pick
 returns c =
     let e = c.accepted_points-n.ensures in (
       c.if-not-has_room.ensures ∙ rw e,
-      rw (c.number_cells.ensures, c.grid_for-g.ensures.0, e),
+      rw (c.number_cells.ensures, c.grid_for-g.ensures, e),
     )

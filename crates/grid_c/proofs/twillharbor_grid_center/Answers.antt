@@ -1,8 +1,7 @@
 -- `grid_c::twillharbor_grid_center`: the centre's two coordinates.
-use Rattle.std.proofs.Common.{ap}
+use Rattle.std.proofs.Common.{ap, ◌∙◌}
 use Rattle.grid_c.specs.Results.{center_result}
 use Rattle.grid_c.proofs.twillharbor_grid_center.Goals as goal
 
 pub returns : goal.returns
-unfolding center_result
-returns c = ap center_result c.image_center-p.ensures
+returns c = c.into.ensures ∙ ap center_result c.image_center.ensures

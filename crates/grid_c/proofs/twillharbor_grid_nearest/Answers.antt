@@ -21,13 +21,12 @@ pub insert_all-requires : goal.insert_all-requires
 insert_all-requires c =
     let w = query_room_told _ _ _ c.accepted_points-n.ensures _ _ _ _ (sym c.if-not-has_query_room.ensures) in
     let p = w.0.plate in
-    (c.grid_for-g.ensures.1, p.on_plate, omega (arith, w.0.half, w.3), omega (arith, w.0.points, p.points, w.3), w.4)
+    (p.on_plate, omega (arith, w.0.half, w.3), omega (arith, w.0.points, p.points, w.3), w.4)
 
 pub query_all-requires : goal.query_all-requires
 query_all-requires c =
     let w = query_room_told _ _ _ c.accepted_points-n.ensures _ _ _ _ (sym c.if-not-has_query_room.ensures) in
     let p = w.0.plate in (
-      c.grid_for-g.ensures.1,
       p.on_plate,
       omega (arith, p.points, p.counted),
       c.insert_all.ensures,
@@ -39,7 +38,7 @@ pub returns : goal.returns
 unfolding pick
 returns c =
     let e = c.accepted_points-n.ensures in
-    let g = c.grid_for-g.ensures.0 in
+    let g = c.grid_for-g.ensures in
     let half = (query_room_told _ _ _ e _ _ _ _ (sym c.if-not-has_query_room.ensures)).0.half in (
       c.if-not-has_query_room.ensures ∙ rw e,
       rw (c.query_all.ensures.0, g, half, e),

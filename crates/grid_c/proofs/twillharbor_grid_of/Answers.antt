@@ -1,5 +1,5 @@
 -- `grid_c::twillharbor_grid_of`: the numbers of the grid, where the plate has one.
-use Rattle.std.proofs.Common.{sym, ap}
+use Rattle.std.proofs.Common.{sym, ap, ◌∙◌, arith}
 use lib.Ieee.{of_bits}
 use borrow.Author.Tests.{lt-ltb, le-ltb}
 use Rattle.rules.specs.Tools.{pick}
@@ -7,13 +7,16 @@ use Rattle.grid_c.specs.Passing.{gridded}
 use Rattle.grid_c.specs.Results.{grid_result, no_grid}
 use Rattle.grid_c.proofs.twillharbor_grid_of.Goals as goal
 
-pub grid_for-g-requires : goal.grid_for-g-requires
-grid_for-g-requires c = (gridded _ _ _ c.accepted_points-n.ensures c.if-n-gt0.true).sound
+pub grid_for-requires : goal.grid_for-requires
+grid_for-requires c = (gridded _ _ _ c.accepted_points.ensures (omega arith)).sound
 
-pub returns-then-n-gt0 : goal.returns-then-n-gt0
-unfolding grid_result pick
-returns-then-n-gt0 c = rw (sym c.accepted_points-n.ensures, lt-ltb 0 _ c.if-n-gt0.true) (ap grid_result c.grid_for-g.ensures.0)
+pub returns-then-accepted_points-eq0 : goal.returns-then-accepted_points-eq0
+unfolding no_grid pick of_bits
+returns-then-accepted_points-eq0 c =
+    let e = c.default.ensures in
+    rw (sym c.accepted_points.ensures, c.if-accepted_points-eq0.true)
+    (λ i. record { cell_size = e.0 i; inv_cell_size = e.1.0 i; origin_x = e.1.1.0 i; origin_y = e.1.1.1.0 i; cols = e.1.1.1.1.0 i; rows = e.1.1.1.1.1 i })
 
 pub returns : goal.returns
-unfolding no_grid pick of_bits
-returns c = rw (sym c.accepted_points-n.ensures, le-ltb 0 _ c.if-n-gt0.false)
+unfolding pick
+returns c = rw (sym c.accepted_points.ensures, lt-ltb 0 c.accepted_points.result (omega arith)) (c.into.ensures ∙ ap grid_result c.grid_for.ensures)

@@ -37,7 +37,7 @@ returns c =
     let l = c.mark_samples.auto.owners ∙ length-take-le n owners w.1 in (
       c.if-not-has_room.ensures ∙ rw e,
       λ t. (
-        marked_longer _ _ _ _ _ (omega (arith, l, w.0.points)) (rw c.grid_for-g.ensures.0 at c.mark_samples.ensures),
+        marked_longer _ _ _ _ _ (omega (arith, l, w.0.points)) (rw c.grid_for-g.ensures at c.mark_samples.ensures),
         rw (sym e) (behind_kept c.mark_samples.new.owners owners n l),
       ),
       λ f. absurd (true≢false f),

@@ -1,54 +1,75 @@
--- The contour enters as the rules say: the place found, and what is drawn behind it.
-use mathlib.Core.Path.{ap, ◌∙◌}
-use Prim.Native.Nat.{◌<◌}
+-- What is queried is on the path, the walk goes back to the place that is found, and what is written is what the rules write.
+use mathlib.Core.Path.{◌≡◌, ap, ◌∙◌}
+use Prim.Native.Nat.{◌+◌, ◌<◌}
 use native.Mathlib.Omega.{arith}
-use Rattle.rules.specs.RetraceAndMarks.{landing_kind, place_in}
+use Rattle.rules.specs.HandedOver.{at}
+use Rattle.rules.specs.GridAndNearest as rules
+use Rattle.rules.specs.Marks.{kind_of}
+use Rattle.rules.specs.RetraceAndMarks.{landing_kind, place_in, entered}
 use Rattle.start.specs.Oriented.{contour_of}
 use Rattle.path.specs.Accepted.{point_on}
-use Rattle.joining.proofs.Entering.{found_below, enter_full, enter_drawn}
+use Rattle.history.specs.History.{points}
+use Rattle.path_points.specs.Writing.{reached}
+use Rattle.joining.proofs.Entering.{found_below, enter_full, enter_drawn, adds_err}
 use Rattle.joining.proofs.enter.Goals as goal
+use Rattle.joining.proofs.enter.Goals.{After-place_in-h, After-landing_mark-landing}
+
+found : (c : After-place_in-h) →
+    c.place_in-h.result.0
+    ≡ place_in (rules.nearest c.args.writer.now.grid.spatial (points c.args.writer.now.path.now c.args.writer.now.count) c.point_at-q.result)
+found c = rw (c.place_in-h.ensures, c.nearest.ensures, c.so_far-path.ensures.0, c.so_far-path.ensures.1)
+
+below : (c : After-place_in-h) → c.place_in-h.result.0 < c.args.writer.now.count
+below c = rw (found c) (found_below _ _ _ _ c.requires.some)
+
+left : (c : After-landing_mark-landing) →
+    kind_of c.landing_mark-landing.result ≡ landing_kind (at c.args.writer.now.path.now c.place_in-h.result.0) c.point_at-q.result
+left c =
+    let q = c.point_at-q.result in
+    let h = c.place_in-h.result.0 in
+    c.landing_mark-landing.ensures.kind ∙ ap (λ x. landing_kind x q) (c.path_point.ensures ∙ ap (λ z. at z h) c.so_far-path.ensures.0)
 
 pub nearest-requires : goal.nearest-requires
 nearest-requires c =
     let r = c.requires in
     let e = c.point_at-q.ensures in
-    let on = point_on c.args.points.now c.args.v.0 r.3 (omega (arith, r)) in
-    (r.0.ready r.1, r.0.sane, (rw e on.0, rw e on.1))
+    let on = point_on c.args.points.now c.args.candidate.entry.0 r.on_plate (omega (arith, r)) in
+    (rw (c.so_far-path.ensures.0, c.so_far-path.ensures.1, c.work.ensures) (r.writable.ready r.fits), (rw e on.0, rw e on.1))
 
 pub path_point-requires : goal.path_point-requires
 path_point-requires c =
     let r = c.requires in
-    let below : c.place_in-h.result.0 < c.args.count = rw (c.place_in-h.ensures, c.nearest.ensures) (found_below _ _ _ _ r.2) in
-    omega (arith, below, r.1, r.0.path_room)
+    rw c.so_far-path.ensures.0 (omega (arith, below (goal.at.path_point-requires c).After-place_in-h, r.fits, r.writable.path_room))
 
-pub walk_back-back-requires : goal.walk_back-back-requires
-walk_back-back-requires c = (c.requires.0, λ m. rw (c.place_in-h.ensures, c.nearest.ensures) (found_below _ _ _ _ c.requires.2))
+pub walk_back-requires-clause-behind : goal.walk_back-requires-clause-behind
+walk_back-requires-clause-behind c m = below (goal.at.walk_back-requires-clause-behind c).After-place_in-h
 
-pub returns-then-room-back : goal.returns-then-room-back
+pub returns-in_err-walk_back-clause-adds : goal.returns-in_err-walk_back-clause-adds
 unfolding contour_of
-returns-then-room-back c =
+returns-in_err-walk_back-clause-adds c p w e of entry =
     let r = c.requires in
-    let q = c.point_at-q.result in
-    let walk = c.walk_back-back.ensures in (
-      walk.0,
-      walk.1,
-      λ p w e of entry.
-          enter_full c.args.points.now p e c.args.g w (contour_of c.args.c) of c.args.v.0 entry r.5 c.args.room c.args.count r.1 r.2 c.args.path.now
-          c.args.marks.now _ c.point_at-q.ensures _ (c.place_in-h.ensures ∙ ap place_in c.nearest.ensures) _
-          (c.landing_kind-kind.ensures ∙ ap (λ x. landing_kind x q) c.path_point.ensures) _ _ _ (walk.2 _) c.if-room-back.true,
-    )
+    let xs = c.args.points.now in
+    let before = c.args.writer.now in
+    let back = c.walk_back.new.self in
+    let at = goal.at.returns-in_err-walk_back-clause-adds c in
+    adds_err xs before back (λ ss. entered p before.grid.spatial ss w) c.in_err-walk_back.field-0.0
+    (enter_full xs p e before.grid.spatial w (contour_of c.args.candidate.contour) of c.args.candidate.entry.0 entry r.entry.1 before.room before.count
+    r.fits r.some before.path.now before.marks.now c.point_at-q.result c.point_at-q.ensures c.place_in-h.result.0 (found at.After-place_in-h)
+    (kind_of c.landing_mark-landing.result) (left at.After-landing_mark-landing) (before.room + 1) back.path.now back.marks.now
+    (c.in_err-walk_back.ensures.adds xs) (omega arith))
+    c.from_residual.result c.from_residual.ensures.0
 
-pub returns : goal.returns
+pub returns-clause-adds : goal.returns-clause-adds
 unfolding contour_of
-returns c =
+returns-clause-adds c p w e of entry =
     let r = c.requires in
-    let q = c.point_at-q.result in
-    let walk = c.walk_back-back.ensures in
-    let on = c.emit.ensures in (
-      on.0,
-      λ i l. on.1 i l ∙ walk.1 i l,
-      λ p w e of entry.
-          enter_drawn c.args.points.now p e c.args.g w (contour_of c.args.c) of c.args.v.0 entry r.5 c.args.room c.args.count r.1 r.2 c.args.path.now
-          c.args.marks.now _ c.point_at-q.ensures _ (c.place_in-h.ensures ∙ ap place_in c.nearest.ensures) _
-          (c.landing_kind-kind.ensures ∙ ap (λ x. landing_kind x q) c.path_point.ensures) _ _ _ (walk.2 _) _ _ _ on.2,
-    )
+    let xs = c.args.points.now in
+    let before = c.args.writer.now in
+    let back = c.walk_back.new.self in
+    let after = c.emit.new.writer in
+    let at = goal.at.returns-clause-adds c in
+    enter_drawn xs p e before.grid.spatial w (contour_of c.args.candidate.contour) of c.args.candidate.entry.0 entry r.entry.1 before.room before.count
+    r.fits r.some before.path.now before.marks.now c.point_at-q.result c.point_at-q.ensures c.place_in-h.result.0 (found at.After-place_in-h)
+    (kind_of c.landing_mark-landing.result) (left at.After-landing_mark-landing) back.count back.path.now back.marks.now
+    (c.in_ok-walk_back.ensures.adds xs) (reached before.room after.count c.emit.result) after.path.now after.marks.now
+    (rw (c.in_ok-walk_back.ensures.same.1, c.landing_mark-landing.ensures.reference) at c.emit.ensures.adds)

@@ -1,28 +1,35 @@
 -- The slices before the start are those of the rules.
-use mathlib.Core.Path.{◌≡◌}
-use Prim.Native.Nat.{◌≤◌, ◌<◌}
 use native.Mathlib.Omega.{arith}
-use lib.ListN.{length}
-use Rattle.rules.specs.Tools.{sum}
-use Rattle.joining.proofs.Beginning.{begin_prepared, begin_ready, begin_flags, begin_lines}
+use Rattle.joining.proofs.Beginning.{Beginning, begin_prepared, begin_ready, begin_lines}
 use Rattle.joining.proofs.set_up.Goals as goal
+use Rattle.joining.proofs.set_up.Goals.{After-prepare}
 
-pub returns : goal.returns
-returns c =
+begins : (c : After-prepare) →
+    Beginning c.args.checked.now.input.points.now c.args.checked.now.input.lengths.now c.args.grid.spatial c.laid_out-layout.result c.clear.new.work
+    c.prepare.new.work c.prepare.new.distances c.args.number
+begins c =
     let r = c.requires in
-    let o = c.laid_out-lay.ensures in
+    let o = c.laid_out-layout.ensures in
     let e = c.prepare.ensures in
     let k = c.clear in
-    let l : c.args.number < c.laid_out-lay.result.contours = omega (arith, o.4, r.3) in
-    let start : 2916 ≤ c.laid_out-lay.result.flags = omega (arith, o.1) in
-    let long : 2916 ≤ length k.new.work = omega (arith, k.auto.work, r.5) in
-    let same = c.prepare.auto.work in
-    let points : c.laid_out-lay.result.points ≡ sum c.args.lengths.now = omega (arith, o.2, r.0.counted) in (
-      o.1,
-      points,
-      begin_prepared _ _ _ _ k.new.work _ _ _ e.0 e.1 e.2 e.3 e.4 o.4 l k.ensures.1 start long same,
-      begin_ready _ _ _ _ k.new.work _ _ _ e.0 e.1 e.2 e.3 e.4 o.4 l k.ensures.1 start long same,
-      begin_flags _ _ _ _ k.new.work _ _ _ e.0 e.1 e.2 e.3 e.4 o.4 l k.ensures.1 start long same,
-      begin_lines _ _ _ _ k.new.work _ _ _ e.0 e.1 e.2 e.3 e.4 o.4 l k.ensures.1 start long same,
-      o.4,
-    )
+    record {
+      prepared = e.0;
+      held = e.1;
+      below = e.3;
+      waits = e.4;
+      many = o.4;
+      inside = omega (arith, o.4, r.number);
+      none = k.ensures.1;
+      start = omega (arith, o.1);
+      long = omega (arith, k.auto.work, r.work_room);
+      same = c.prepare.auto.work;
+    }
+
+pub returns-clause-prepared : goal.returns-clause-prepared
+returns-clause-prepared c = begin_prepared _ _ _ _ _ _ _ _ (begins (goal.at.returns-clause-prepared c).After-prepare)
+
+pub returns-clause-ready : goal.returns-clause-ready
+returns-clause-ready c = begin_ready _ _ _ _ _ _ _ _ (begins (goal.at.returns-clause-ready c).After-prepare)
+
+pub returns-clause-lines : goal.returns-clause-lines
+returns-clause-lines c = begin_lines _ _ _ _ _ _ _ _ (begins (goal.at.returns-clause-lines c).After-prepare)

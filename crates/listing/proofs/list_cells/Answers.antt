@@ -11,7 +11,7 @@ loop-i-init c = folding_start _ _ _ _ _ _ _ (listing_none _ _ _ c.requires.0.lai
 pub loop-i-preserved : goal.loop-i-preserved
 loop-i-preserved c =
     let k = c.cell_of.ensures in
-    folding_step _ _ _ _ _ _ _ _ _ c.loop-i.i c.loop-i.invariant c.loop-i-test.true _ _
+    folding_step _ _ _ _ _ _ _ _ _ c.loop-i.i c.loop-i.invariant (omega (arith, c.loop-i-test.true)) _ _
     (around_lists _ _ _ _ _ _ _ _ _ c.loop-i.i _ _ _ c.vertex_of.ensures c.point_at-p.ensures k.0 k.1 c.list_square-n.ensures)
     c.list_square-n.auto.work
 

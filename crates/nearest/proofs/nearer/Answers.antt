@@ -1,9 +1,8 @@
 -- `nearest::nearer`: the tests of the code are that of the definition.
 use Rattle.std.proofs.Common.{sym, ◌∙◌}
-use borrow.Author.Tests.{lt-ltb, le-ltb}
 use Rattle.rules.specs.GridAndNearest.{wins, found}
 use Rattle.point.specs.Bound.{beyond_above, above_not_below, above_not_equal}
-use Rattle.nearest.proofs.Winning.{first_found, passed_over, wins_over}
+use Rattle.nearest.proofs.Winning.{first_found, passed_over, wins_over, place_before}
 use Rattle.nearest.proofs.nearer.Goals as goal
 
 pub returns-in_default : goal.returns-in_default
@@ -22,17 +21,17 @@ returns-then-squared-least c =
     let d = c.distance_squared-squared.ensures in
     λ g. rw d (wins_over _ _ _ _ c.in-Found.is (rw (← d, c.if-squared-least.true)))
 
-pub returns-then-old-place : goal.returns-then-old-place
+pub returns-then-lt : goal.returns-then-lt
 unfolding wins found
-returns-then-old-place c =
+returns-then-lt c =
     let d = c.distance_squared-squared.ensures in
-    λ g. rw d (wins_over _ _ _ _ c.in-Found.is (rw (← d, c.if-squared-least.false, c.if-squared-least-2.true, lt-ltb _ _ c.if-old-place.true)))
+    λ g. rw d (wins_over _ _ _ _ c.in-Found.is (rw (← d, c.if-squared-least.false, c.if-squared-least-2.true) (sym (place_before _ _) ∙ sym c.lt.ensures ∙ c.if-lt.true)))
 
-pub returns-else-old-place : goal.returns-else-old-place
+pub returns-else-lt : goal.returns-else-lt
 unfolding wins
-returns-else-old-place c =
+returns-else-lt c =
     let d = c.distance_squared-squared.ensures in
-    λ g. passed_over _ _ _ _ c.in-Found.is (rw (← d, c.if-squared-least.false, c.if-squared-least-2.true, le-ltb _ _ c.if-old-place.false))
+    λ g. passed_over _ _ _ _ c.in-Found.is (rw (← d, c.if-squared-least.false, c.if-squared-least-2.true) (sym (place_before _ _) ∙ sym c.lt.ensures ∙ c.if-lt.false))
 
 pub returns-else-squared-least-2 : goal.returns-else-squared-least-2
 unfolding wins

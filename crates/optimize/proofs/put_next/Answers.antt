@@ -1,61 +1,74 @@
--- `optimize::put_next` meets its contract. Assumes nothing.
-use Rattle.std.proofs.Common.{List, ◌++◌, ◌∷◌, map, ℕ, ◌+◌, ◌-◌, length, get_or, take, drop, sym, ap, ◌∙◌, subst, arith, length-take}
+-- The nearest contour that waits goes behind those in order.
+use Rattle.std.proofs.Common.{List, ◌++◌, ◌∷◌, map, ℕ, ◌+◌, ◌-◌, length, get_or, take, drop, refl, sym, ap, ◌∙◌, arith, length-take}
 use Rattle.std.proofs.lemmas.List.{length-map}
-use Rattle.rules.specs.Tools.{sum, foremost}
+use Rattle.rules.specs.Tools.{foremost}
+use Rattle.rules.specs.HandedOver.{plate, plate_of}
 use Rattle.rules.specs.Start.{layer_of}
 use Rattle.rules.specs.OrderAndStraight.{nearer_sense, nearer_end}
 use Rattle.rules.specs.declared.Point.{Point}
-use Rattle.path.specs.Lists.{All}
 use Rattle.start.specs.Oriented.{contour_of, oriented_of}
-use Rattle.packed_contours.specs.Packed.{packed, Placed}
+use Rattle.packed_contours.specs.Packed.{packed}
 use Rattle.optimize.specs.Choice.{choice_of, Stands}
 use Rattle.optimize.specs.State.{Continued}
 use Rattle.optimize.proofs.Steps.{winner_placed, waiting_words, next_state, order_stops}
 use Rattle.optimize.proofs.put_next.Goals as goal
 
 pub last_end-q-requires : goal.last_end-q-requires
-unfolding oriented_of contour_of
+unfolding plate oriented_of contour_of
 last_end-q-requires c =
-    let w = c.requires.4 in
-    let k = w.4.at in
-    (k.small, omega (arith, k.inside, ap sum w.2, c.requires.0))
+    let k = c.requires.1.at in
+    record { small = k.small; held = omega (arith, k.inside, c.args.checked.now.accepted.counted) }
 
-pub returns-in_default : goal.returns-in_default
-unfolding Continued choice_of
-returns-in_default c = λ p e f y st.
-    let x = c.in_default.ensures.1 p st.left e y (waiting_words p _ _ _ _ st) (subst (λ (ns : List ℕ). All (Placed ns) st.left) f st.placed) in
-    let q = c.last_end-q.ensures p e in
-    order_stops p _ _ _ _ st (ap (λ (o : Point). foremost (layer_of p) nearer_end (map (nearer_sense p o) st.left)) (sym q) ∙ sym x)
+pub nearest_waiting-requires : goal.nearest_waiting-requires
+unfolding plate
+nearest_waiting-requires c =
+    let st = c.requires.1 in
+    (st.left, waiting_words _ _ _ _ _ st, st.placed)
 
-pub packed_sense-requires : goal.packed_sense-requires
-unfolding oriented_of contour_of choice_of
-packed_sense-requires c =
-    let w = c.requires.4 in
-    let st = w.4 in
-    let n = c.in-At.ensures in
-    let x = n.1 w.0 st.left w.1 w.3 (waiting_words w.0 _ _ _ _ st) (subst (λ (ns : List ℕ). All (Placed ns) st.left) w.2 st.placed) in
-    let k = winner_placed w.0 w.0.lengths _ st.left _ st.placed (sym x) in
+pub returns-in_err-choice : goal.returns-in_err-choice
+unfolding plate Continued choice_of
+returns-in_err-choice c =
+    let p = plate_of c.args.checked.now.input in
+    let st = c.requires.1 in
+    let x = c.in_err-choice.ensures.choice st.left (waiting_words p _ _ _ _ st) st.placed in
+    let q = c.last_end-q.ensures p refl in
+    rw c.from_residual.ensures (order_stops p _ _ _ _ st (ap (λ (o : Point). foremost (layer_of p) nearer_end (map (nearer_sense p o) st.left)) (sym q) ∙ sym x))
+
+pub packed_sense-word-requires : goal.packed_sense-word-requires
+unfolding plate oriented_of contour_of choice_of
+packed_sense-word-requires c =
+    let p = plate_of c.args.checked.now.input in
+    let st = c.requires.1 in
+    let x = c.in_ok-choice.ensures.choice st.left (waiting_words p _ _ _ _ st) st.placed in
+    let k = winner_placed p p.lengths _ st.left _ st.placed (sym x) in
     (k.few, omega (arith, k.small))
 
 pub move_down-requires : goal.move_down-requires
 unfolding Stands
 move_down-requires c =
-    let h = c.in-At.ensures.0 in
-    (omega arith, omega (arith, h.0, length-take (c.args.n - c.args.done) (drop c.args.done c.args.work.now), c.requires.3, c.requires.2))
+    let h = c.in_ok-choice.ensures.place in
+    (omega arith, omega (arith, h.0, length-take (length c.args.work.now - c.args.done) (drop c.args.done c.args.work.now), c.requires.0))
+
+pub overflow_add-done : goal.overflow_add-done
+unfolding Stands
+overflow_add-done c =
+    omega (arith, c.in_ok-choice.ensures.place.0, length-take (length c.args.work.now - c.args.done) (drop c.args.done c.args.work.now), c.requires.0)
 
 pub returns : goal.returns
-unfolding Continued Stands choice_of oriented_of contour_of
-returns c = λ p e f y st.
+unfolding plate Continued Stands choice_of oriented_of contour_of
+returns c =
+    let p = plate_of c.args.checked.now.input in
+    let st = c.requires.1 in
     let work = c.args.work.now in
     let done = c.args.done in
-    let n = c.in-At.ensures in
+    let n = c.in_ok-choice.ensures in
     let ws = waiting_words p _ _ _ _ st in
-    let x = n.1 p st.left e y ws (subst (λ (ns : List ℕ). All (Placed ns) st.left) f st.placed) in
-    let q = c.last_end-q.ensures p e in
-    let i = c.in-At.i in
+    let x = n.choice st.left ws st.placed in
+    let q = c.last_end-q.ensures p refl in
+    let i = c.in_ok-choice.choice.place in
     next_state p work _ _ _ st i _ _
-    (omega (arith, n.0.0, ap length ws, length-map st.left packed))
-    (ap (λ (us : List ℕ). get_or us i 0) (sym ws) ∙ n.0.1)
+    (omega (arith, n.place.0, ap length ws, length-map st.left packed))
+    (ap (λ (us : List ℕ). get_or us i 0) (sym ws) ∙ n.place.1)
     (ap (λ (o : Point). foremost (layer_of p) nearer_end (map (nearer_sense p o) st.left)) (sym q) ∙ sym x)
     (c.move_down.ensures
-    ∙ ap (λ (z : ℕ). take done work ++ (z ∷ (take (done + i - done) (drop done work) ++ drop (done + i + 1) work))) c.packed_sense.ensures)
+    ∙ ap (λ (z : ℕ). take done work ++ (z ∷ (take (done + i - done) (drop done work) ++ drop (done + i + 1) work))) c.packed_sense-word.ensures)

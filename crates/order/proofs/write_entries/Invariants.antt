@@ -1,5 +1,5 @@
--- `order::write_entries`: the entries of the first i words are written.
-use Rattle.std.proofs.Common.{length, take, ◌-◌, ◌≡◌, ◌≤◌}
+-- The entries of the words passed are written.
+use Rattle.std.proofs.Common.{length, take, ◌≡◌}
 use Rattle.rules.specs.HandedOver.{over}
 use Rattle.slices.specs.Pairs.{pairs}
 use Rattle.packed_contours.specs.Packed.{number_in}
@@ -7,8 +7,4 @@ use Rattle.packed_contours.specs.Unpacked.{sense_in}
 use Rattle.order.proofs.write_entries.Given as goal
 
 abbrev pub invariant-loop-i : goal.invariant-loop-i
-invariant-loop-i l =
-    (l.i ≤ length l.words) × (length l.order ≡ length l.fn.order) × (l.order ≡ over (pairs number_in sense_in (take l.i l.words)) l.fn.order)
-
-abbrev pub decreases-loop-i : goal.decreases-loop-i
-decreases-loop-i l = length l.words - l.i
+invariant-loop-i l = (length l.order ≡ length l.fn.order) × (l.order ≡ over (pairs number_in sense_in (take l.i l.words)) l.fn.order)

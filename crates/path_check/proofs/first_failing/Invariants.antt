@@ -1,19 +1,24 @@
--- The path points before i keep the rules.
-use Rattle.std.proofs.Common.{◌≡◌, List, ◌-◌, ◌≤◌}
+-- The path points before i keep the rules; the words alone change.
+use Rattle.std.proofs.Common.{◌≡◌, List, ◌-◌, ◌/◌, length}
 use Rattle.rules.specs.Tools.{first_failing}
 use Rattle.rules.specs.HandedOver.{Contour}
 use Rattle.statement.specs.PathCheck.{keeps_rules}
-use Rattle.path_rules.specs.Tallied.{Labelled, Tallied}
+use Rattle.path_rules.specs.Tallied.{Tallied}
 use Rattle.path_check.proofs.first_failing.Given as goal
 
 abbrev pub invariant-loop-i : goal.invariant-loop-i
 invariant-loop-i l =
-    (l.i ≤ l.n)
-    × Labelled l.total l.work
-    × ((cs : List Contour) → Tallied cs l.total l.marks 0 l.initial.work →
-    (let test = keeps_rules cs l.points l.path l.marks in
-    first_failing test 0 l.n ≡ first_failing test l.i (l.n - l.i))
-    × Tallied cs l.total l.marks l.i l.work)
-
-abbrev pub decreases-loop-i : goal.decreases-loop-i
-decreases-loop-i l = l.n - l.i
+    let start = l.initial.checked in
+    let n = length start.path.now / 2 in
+    record {
+      points : l.checked.points.now ≡ start.points.now;
+      path : l.checked.path.now ≡ start.path.now;
+      marks : l.checked.marks.now ≡ start.marks.now;
+      total : l.checked.words.total ≡ start.words.total;
+      same : l.checked.words.work.ghost_name ≡ start.words.work.ghost_name;
+      long : length l.checked.words.work.now ≡ length start.words.work.now;
+      kept : (cs : List Contour) → Tallied cs start.words.total start.marks.now 0 start.words.work.now →
+          (let test = keeps_rules cs start.points.now start.path.now start.marks.now in
+          first_failing test 0 n ≡ first_failing test l.i (n - l.i))
+          × Tallied cs start.words.total start.marks.now l.i l.checked.words.work.now;
+    }

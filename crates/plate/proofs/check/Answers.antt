@@ -1,67 +1,100 @@
 -- What refusals 1 to 3 let pass, refusals 13 and 4 test, the parked point's 4 before the contours'.
-use Rattle.std.proofs.Common.{ℕ, List, [], ◌∷◌, length, sym, ap, ◌∙◌, arith, lt-ltb, le-ltb, eq-eqb}
-use Rattle.std.proofs.lemmas.Bool.{ne_eqb}
-use Rattle.std.specs.Prelude.{Float}
-use Rattle.rules.specs.Tools.{pick, sum}
-use Rattle.rules.specs.HandedOver.{Answer, gives, number_of, place_of, refusal, refused_by, bad_layer_count, bad_layer, off_the_plate, parked_coordinates, input_rows}
-use Rattle.rules.specs.declared.StartPointStrategy.{StartPointStrategy}
-use Rattle.path.specs.Rows.{rows_pass, refusal_refuses}
-use Rattle.plate.specs.Answer.{checked_answer, count_rows}
+use Rattle.std.proofs.Common.{false, [], ◌∷◌, ◌++◌, List, ◌≡◌, length, sym, arith}
+use Rattle.std.proofs.lemmas.Result.{err_from_is_err_and}
+use Rattle.rules.specs.Tools.{sum}
+use Rattle.rules.specs.HandedOver.{RefusalRow, plate, plate_of, plate_rows, answer_of, gives, refused_by, bad_layer_count, bad_layer, off_the_plate, parked_coordinates, input_rows}
+use Rattle.rules.specs.declared.Input.{Input}
+use Rattle.path.specs.Lists.{all_append}
+use Rattle.path.specs.Rows.{Passed, rows_pass}
+use Rattle.path.specs.Accepted.{input_gives}
+use Rattle.plate.specs.Answer.{count_rows}
 use Rattle.plate.specs.Counted.{rows_counted}
-use Rattle.plate.proofs.Told.{counts_passed, counts_sound}
+use Rattle.plate.proofs.Told.{passed, refuses_among}
 use Rattle.plate.proofs.check.Goals as goal
+use Rattle.plate.proofs.check.Goals.{In_ok-check_points}
 
--- what refusals 1 to 3 let pass is tested by 13 and 4
-abbrev later : List Float → List ℕ → List ℕ → StartPointStrategy → Answer ℕ
-later xs ns ls s =
-    refused_by
-    (bad_layer_count (length ns) ls ∷ bad_layer ls ∷ off_the_plate (parked_coordinates s) ∷ off_the_plate xs ∷ [])
-    (gives (sum ns))
+abbrev counts : Input → List RefusalRow
+counts i = count_rows i.points.now i.lengths.now
 
-pub returns-in_default : goal.returns-in_default
-unfolding checked_answer input_rows count_rows refused_by
-returns-in_default c =
-    ap checked_answer c.in_default.is
-    ∙ refusal_refuses (count_rows c.args.points.now c.args.lengths.now) _ _ _ c.in_default.ensures
+abbrev layers : Input → List RefusalRow
+layers i = bad_layer_count (length i.lengths.now) i.layers.now ∷ bad_layer i.layers.now ∷ []
 
-pub overflow_cast-result : goal.overflow_cast-result
-overflow_cast-result c =
-    let few = rows_counted _ _ (counts_passed _ c.args.points.now c.args.lengths.now c.in-Sound.ensures) in
+abbrev parked : Input → List RefusalRow
+parked i = off_the_plate (parked_coordinates i.strategy) ∷ []
+
+abbrev points : Input → List RefusalRow
+points i = off_the_plate i.points.now ∷ []
+
+before_points : (i : Input) → Passed (counts i) → Passed (layers i) → Passed (parked i) → Passed (counts i ++ (layers i ++ parked i))
+before_points i cs ls ps = all_append (λ r. r.test ≡ false) (counts i) (layers i ++ parked i) cs (all_append (λ r. r.test ≡ false) (layers i) (parked i) ls ps)
+
+whole : (i : Input) → Passed (counts i ++ (layers i ++ parked i)) → Passed (points i) →
+    refused_by (plate_rows (plate_of i)) (gives (sum i.lengths.now)) ≡ gives (sum i.lengths.now)
+unfolding plate input_rows count_rows
+whole i before ps = rows_pass (plate_rows (plate_of i)) (all_append (λ r. r.test ≡ false) (counts i ++ (layers i ++ parked i)) (points i) before ps) _
+
+pub returns-in_err-check_counts-clause-answer : goal.returns-in_err-check_counts-clause-answer
+unfolding plate input_rows count_rows
+returns-in_err-check_counts-clause-answer c =
+    let p = err_from_is_err_and c.from_residual.result c.from_residual.ensures.1 in
+    let i = c.args.input.now in
+    rw (p.1, p.2) (refuses_among [] (counts i) (layers i ++ (parked i ++ points i)) _ _ _ tt c.in_err-check_counts.ensures)
+
+pub check_layers-requires : goal.check_layers-requires
+check_layers-requires c =
+    let few = rows_counted _ _ (passed (counts c.args.input.now) _ _ c.in_ok-check_counts.ensures).0 in
     omega (arith, few.contours)
 
-pub returns-then-layers-lengths : goal.returns-then-layers-lengths
-unfolding checked_answer input_rows count_rows refused_by bad_layer_count bad_layer number_of place_of refusal pick
-returns-then-layers-lengths c =
-    let a = c.args in
-    rw (rows_pass (count_rows a.points.now a.lengths.now) (counts_passed _ _ _ c.in-Sound.ensures) (later a.points.now a.lengths.now a.layers.now a.strategy))
-    (simp (ne_eqb _ _ c.if-layers-lengths.true))
+pub returns-in_err-check_layers-clause-answer : goal.returns-in_err-check_layers-clause-answer
+unfolding plate input_rows count_rows
+returns-in_err-check_layers-clause-answer c =
+    let p = err_from_is_err_and c.from_residual-in_err-check_layers.result c.from_residual-in_err-check_layers.ensures.1 in
+    let i = c.args.input.now in
+    rw (p.1, p.2)
+    (refuses_among (counts i) (layers i) (parked i ++ points i) _ _ _ (passed (counts i) _ _ c.in_ok-check_counts.ensures).0 c.in_err-check_layers.ensures)
 
-pub overflow_cast-result-then-b-layers : goal.overflow_cast-result-then-b-layers
-overflow_cast-result-then-b-layers c =
-    let few = rows_counted _ _ (counts_passed _ c.args.points.now c.args.lengths.now c.in-Sound.ensures) in
-    omega (arith, few.contours)
+pub returns-in_err-check_parked-clause-answer : goal.returns-in_err-check_parked-clause-answer
+unfolding plate input_rows count_rows
+returns-in_err-check_parked-clause-answer c =
+    let p = err_from_is_err_and c.from_residual-in_err-check_parked.result c.from_residual-in_err-check_parked.ensures.1 in
+    let i = c.args.input.now in
+    let passes : Passed (counts i ++ layers i) =
+    all_append (λ r. r.test ≡ false) (counts i) (layers i) (passed (counts i) _ _ c.in_ok-check_counts.ensures).0 (passed (layers i) _ _ c.in_ok-check_layers.ensures).0
+    in
+    rw (p.1, p.2) (refuses_among (counts i ++ layers i) (parked i) (points i) _ _ _ passes c.in_err-check_parked.ensures)
 
-pub returns-then-b-layers : goal.returns-then-b-layers
-unfolding checked_answer input_rows count_rows refused_by bad_layer_count bad_layer number_of place_of refusal pick
-returns-then-b-layers c =
-    let a = c.args in
-    rw (rows_pass (count_rows a.points.now a.lengths.now) (counts_passed _ _ _ c.in-Sound.ensures) (later a.points.now a.lengths.now a.layers.now a.strategy))
-    (simp (eq-eqb _ _ c.if-layers-lengths.false, ← c.first_bad-b.ensures, lt-ltb _ _ c.if-b-layers.true))
-
-pub check_points-checked-requires : goal.check_points-checked-requires
-check_points-checked-requires c =
-    let few = rows_counted _ _ (counts_passed _ c.args.points.now c.args.lengths.now c.in-Sound.ensures) in
+pub check_points-requires : goal.check_points-requires
+check_points-requires c =
+    let few = rows_counted _ _ (passed (counts c.args.input.now) _ _ c.in_ok-check_counts.ensures).0 in
     omega (arith, few.points, few.counted)
 
-pub returns : goal.returns
-unfolding input_rows count_rows refused_by bad_layer_count bad_layer pick
-returns c =
-    let xs = c.args.points.now in
-    let ns = c.args.lengths.now in
-    let s = c.args.strategy in
-    c.check_parked.ensures
-    ∙ ap (refused_by (off_the_plate (parked_coordinates s) ∷ []))
-    (c.check_points-checked.ensures ∙ ap (refused_by (off_the_plate xs ∷ [])) (counts_sound _ _ xs ns c.in-Sound.is c.check_counts-counted.ensures))
-    ∙ sym
-    (rows_pass (count_rows xs ns) (counts_passed _ xs ns c.in-Sound.ensures) (later xs ns c.args.layers.now s)
-    ∙ simp (eq-eqb _ _ c.if-layers-lengths.false, ← c.first_bad-b.ensures, le-ltb _ _ c.if-b-layers.false))
+pub returns-in_err-check_points-clause-answer : goal.returns-in_err-check_points-clause-answer
+unfolding plate input_rows count_rows
+returns-in_err-check_points-clause-answer c =
+    let p = err_from_is_err_and c.from_residual-in_err-check_points.result c.from_residual-in_err-check_points.ensures.1 in
+    let i = c.args.input.now in
+    let passes : Passed (counts i ++ (layers i ++ parked i)) =
+    before_points i (passed (counts i) _ _ c.in_ok-check_counts.ensures).0 (passed (layers i) _ _ c.in_ok-check_layers.ensures).0
+    (passed (parked i) _ _ c.in_ok-check_parked.ensures).0
+    in
+    rw (p.1, p.2) (refuses_among (counts i ++ (layers i ++ parked i)) (points i) [] _ _ _ passes c.in_err-check_points.ensures)
+
+all_passed : (c : In_ok-check_points) →
+    refused_by (plate_rows (plate_of c.args.input.now)) (gives (sum c.args.input.now.lengths.now)) ≡ gives (sum c.args.input.now.lengths.now)
+all_passed c =
+    let i = c.args.input.now in
+    whole i
+    (before_points i (passed (counts i) _ _ c.in_ok-check_counts.ensures).0 (passed (layers i) _ _ c.in_ok-check_layers.ensures).0
+    (passed (parked i) _ _ c.in_ok-check_parked.ensures).0)
+    (passed (points i) _ _ c.in_ok-check_points.ensures).0
+
+pub invariant_of-result : goal.invariant_of-result
+unfolding plate
+invariant_of-result c =
+    let i = c.args.input.now in
+    let told = input_gives i.points.now i.lengths.now i.layers.now i.strategy _ _ (all_passed (goal.at.invariant_of-result c).In_ok-check_points) in
+    record { accepted = told.0; layered = told.1.counted }
+
+pub returns-clause-answer : goal.returns-clause-answer
+unfolding answer_of
+returns-clause-answer c = sym (all_passed (goal.at.returns-clause-answer c).In_ok-check_points)

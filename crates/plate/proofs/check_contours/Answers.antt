@@ -1,29 +1,39 @@
 -- What refusals 1 to 3 let pass, refusal 4 tests.
-use Rattle.std.proofs.Common.{[], ◌∷◌, sym, ap, ◌∙◌, arith}
+use Rattle.std.proofs.Common.{◌≡◌, false, [], ◌∷◌, ◌++◌, sym, ◌∙◌, arith}
+use Rattle.std.proofs.lemmas.Result.{err_from_is_err_and}
 use Rattle.rules.specs.Tools.{sum}
-use Rattle.rules.specs.HandedOver.{gives, refused_by, off_the_plate, contour_rows}
-use Rattle.path.specs.Rows.{rows_pass, refusal_refuses}
-use Rattle.plate.specs.Answer.{checked_answer, count_rows}
+use Rattle.rules.specs.HandedOver.{answer_of, gives, off_the_plate, contour_rows}
+use Rattle.path.specs.Lists.{all_append}
+use Rattle.path.specs.Rows.{rows_pass}
+use Rattle.plate.specs.Answer.{count_rows}
 use Rattle.plate.specs.Counted.{rows_counted}
-use Rattle.plate.proofs.Told.{counts_passed, counts_sound}
+use Rattle.plate.proofs.Told.{passed, refuses_among}
 use Rattle.plate.proofs.check_contours.Goals as goal
 
-pub returns-in_default : goal.returns-in_default
-unfolding checked_answer contour_rows count_rows refused_by
-returns-in_default c =
-    ap checked_answer c.in_default.is
-    ∙ refusal_refuses (count_rows c.args.points.now c.args.lengths.now) _ _ _ c.in_default.ensures
+pub returns-in_err-count : goal.returns-in_err-count
+unfolding contour_rows count_rows
+returns-in_err-count c =
+    let p = err_from_is_err_and c.from_residual.result c.from_residual.ensures.1 in
+    rw (p.1, p.2) (refuses_among [] (count_rows c.args.points.now c.args.lengths.now) (off_the_plate c.args.points.now ∷ []) _ _ _ tt c.in_err-count.ensures)
 
 pub check_points-requires : goal.check_points-requires
 check_points-requires c =
-    let few = rows_counted _ _ (counts_passed _ c.args.points.now c.args.lengths.now c.in-Sound.ensures) in
+    let few = rows_counted _ _ (passed (count_rows c.args.points.now c.args.lengths.now) _ _ c.in_ok-count.ensures).0 in
     omega (arith, few.points, few.counted)
 
+pub returns-in_err-check_points : goal.returns-in_err-check_points
+unfolding contour_rows count_rows
+returns-in_err-check_points c =
+    let p = err_from_is_err_and c.from_residual-in_err-check_points.result c.from_residual-in_err-check_points.ensures.1 in
+    let cs = count_rows c.args.points.now c.args.lengths.now in
+    rw (p.1, p.2)
+    (refuses_among cs (off_the_plate c.args.points.now ∷ []) [] _ _ _ (passed cs _ _ c.in_ok-count.ensures).0 c.in_err-check_points.ensures)
+
 pub returns : goal.returns
-unfolding contour_rows count_rows refused_by
+unfolding answer_of contour_rows count_rows
 returns c =
-    let xs = c.args.points.now in
-    let ns = c.args.lengths.now in
-    c.check_points.ensures
-    ∙ ap (refused_by (off_the_plate xs ∷ [])) (counts_sound _ _ xs ns c.in-Sound.is c.check_counts-counted.ensures)
-    ∙ sym (rows_pass (count_rows xs ns) (counts_passed _ xs ns c.in-Sound.ensures) (refused_by (off_the_plate xs ∷ []) (gives (sum ns))))
+    let cs = count_rows c.args.points.now c.args.lengths.now in
+    let qs = off_the_plate c.args.points.now ∷ [] in
+    let counts = passed cs (sum c.args.lengths.now) c.in_ok-count.count c.in_ok-count.ensures in
+    let on = passed qs tt tt c.in_ok-check_points.ensures in
+    sym (rows_pass (cs ++ qs) (all_append (λ r. r.test ≡ false) cs qs counts.0 on.0) (gives (sum c.args.lengths.now)) ∙ counts.1)

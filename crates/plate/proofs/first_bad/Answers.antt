@@ -1,18 +1,20 @@
--- A layer that may be is passed over, the first other one is the place.
-use Rattle.std.proofs.Common.{sym, ◌∙◌, arith}
+-- The first layer above the highest is where `position` finds it.
+use Rattle.std.proofs.Common.{not, leb, rules}
+use borrow.Author.Tests.{tests}
+use Rattle.std.proofs.lemmas.Iterator.{YieldsList-from_slice}
+use Rattle.std.proofs.lemmas.Iterator.Search.{position_from_yields_List}
 use Rattle.rules.specs.Tools.{highest_layer}
-use Rattle.plate.specs.Reading.{bad_in, bad_out, bad_end}
+use Rattle.plate.proofs.Firsts.{bad_place, found, none}
 use Rattle.plate.proofs.first_bad.Goals as goal
 
-pub returns-then-layers-i-gt-HIGHEST_LAYER : goal.returns-then-layers-i-gt-HIGHEST_LAYER
+pub returns-clause-found : goal.returns-clause-found
 unfolding highest_layer
-returns-then-layers-i-gt-HIGHEST_LAYER c =
-    sym (c.loop-i.invariant.1 ∙ bad_out _ c.loop-i.i c.loop-i-test.true c.if-layers-i-gt-HIGHEST_LAYER.true)
+returns-clause-found c =
+    found (λ x. not (leb x highest_layer)) c.args.layers.now _ c.position.result (bad_place 0 c.args.layers.now)
+    (position_from_yields_List (λ x. not (leb x highest_layer)) _ _ _ c.position.ensures.ran (YieldsList-from_slice c.args.layers.now cc) (λ x b q k. search (rules, tests)))
 
-pub loop-i-preserved : goal.loop-i-preserved
+pub returns-clause-none : goal.returns-clause-none
 unfolding highest_layer
-loop-i-preserved c =
-    (omega arith, c.loop-i.invariant.1 ∙ bad_in _ c.loop-i.i c.loop-i-test.true c.if-layers-i-gt-HIGHEST_LAYER.false)
-
-pub returns : goal.returns
-returns c = sym (c.loop-i.invariant.1 ∙ bad_end _ c.loop-i.i c.loop-i-test.false)
+returns-clause-none c =
+    none (λ x. not (leb x highest_layer)) c.args.layers.now _ c.position.result (bad_place 0 c.args.layers.now)
+    (position_from_yields_List (λ x. not (leb x highest_layer)) _ _ _ c.position.ensures.ran (YieldsList-from_slice c.args.layers.now cc) (λ x b q k. search (rules, tests)))

@@ -1,24 +1,18 @@
--- A coordinate in range is passed over, the first other one is the place.
-use Rattle.std.proofs.Common.{sym, ◌∙◌, arith}
-use Rattle.std.specs.Float.Ieee.{of_bits}
-use Rattle.rules.specs.HandedOver.{plate_limit}
-use Rattle.plate.specs.Reading.{off_in, off_out, off_end}
+-- The first number out of range is where `position` finds it.
+use Rattle.std.proofs.Common.{not, rules}
+use borrow.Author.Tests.{tests}
+use Rattle.std.proofs.lemmas.Iterator.{YieldsList-from_slice}
+use Rattle.std.proofs.lemmas.Iterator.Search.{position_from_yields_List}
+use Rattle.rules.specs.HandedOver.{in_range}
+use Rattle.plate.proofs.Firsts.{off_place, found, none}
 use Rattle.plate.proofs.first_off.Goals as goal
 
-pub returns-then-not-in_range : goal.returns-then-not-in_range
-unfolding plate_limit of_bits
-returns-then-not-in_range c =
-    sym
-    (c.loop-i.invariant.1
-    ∙ off_out plate_limit c.args.points.now c.loop-i.i _ c.loop-i-test.true (sym c.in_range.ensures ∙ c.if-not-in_range.true))
+pub returns-clause-found : goal.returns-clause-found
+returns-clause-found c =
+    found (λ x. not (in_range c.args.limit x)) c.args.numbers.now _ c.position.result (off_place c.args.limit 0 c.args.numbers.now)
+    (position_from_yields_List (λ x. not (in_range c.args.limit x)) _ _ _ c.position.ensures.ran (YieldsList-from_slice c.args.numbers.now cc) (λ x b q k. search (rules, tests)))
 
-pub loop-i-preserved : goal.loop-i-preserved
-unfolding plate_limit of_bits
-loop-i-preserved c = (
-  omega arith,
-  c.loop-i.invariant.1
-      ∙ off_in plate_limit c.args.points.now c.loop-i.i _ c.loop-i-test.true (sym c.in_range.ensures ∙ c.if-not-in_range.false),
-)
-
-pub returns : goal.returns
-returns c = sym (c.loop-i.invariant.1 ∙ off_end plate_limit _ c.loop-i.i c.loop-i-test.false)
+pub returns-clause-none : goal.returns-clause-none
+returns-clause-none c =
+    none (λ x. not (in_range c.args.limit x)) c.args.numbers.now _ c.position.result (off_place c.args.limit 0 c.args.numbers.now)
+    (position_from_yields_List (λ x. not (in_range c.args.limit x)) _ _ _ c.position.ensures.ran (YieldsList-from_slice c.args.numbers.now cc) (λ x b q k. search (rules, tests)))

@@ -1,10 +1,15 @@
--- A step takes one length from the rest to the sum.
-use Rattle.std.proofs.Common.{arith}
-use Rattle.plate.specs.Reading.{sum_step, sum_end}
+-- What the chain adds up is the sum.
+use Rattle.std.proofs.Common.{refl, rules, ◌∙◌, sym}
+use borrow.Author.Tests.{tests}
+use Rattle.std.proofs.lemmas.Iterator.{YieldsList-from_slice, YieldsList-from_map}
+use Rattle.std.proofs.lemmas.Iterator.Consumers.{sum_by_from_yields_List}
+use Rattle.std.proofs.lemmas.List.Recursion.{is_sum_by}
+use Rattle.rules.specs.Tools.{sum}
 use Rattle.plate.proofs.point_count.Goals as goal
 
-pub loop-i-preserved : goal.loop-i-preserved
-loop-i-preserved c = omega (arith, c.type_inv.lengths c.loop-i.i, sum_step c.args.lengths.now c.loop-i.i c.loop-i-test.true)
-
 pub returns : goal.returns
-returns c = omega (arith, sum_end c.args.lengths.now c.loop-i.i c.loop-i-test.false)
+unfolding sum
+returns c =
+    sum_by_from_yields_List (λ n. n) c.args.lengths.now c.map.result _ c.sum.ensures.ran
+    (YieldsList-from_map _ (λ n. n) (YieldsList-from_slice c.args.lengths.now cc) c.map.ensures.closure (λ x r q k. search (rules, tests)))
+    ∙ sym (is_sum_by sum (λ n. n) refl (λ x xs. refl) c.args.lengths.now)

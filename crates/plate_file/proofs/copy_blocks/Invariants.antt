@@ -1,10 +1,7 @@
 -- The first i blocks are copied.
-use Rattle.std.proofs.Common.{◌≡◌, ◌-◌, ◌≤◌, length}
+use Rattle.std.proofs.Common.{◌≡◌, length}
 use Rattle.file_laws.specs.Copying.{copied_to}
 use Rattle.plate_file.proofs.copy_blocks.Given as goal
 
 abbrev pub invariant-loop-i : goal.invariant-loop-i
-invariant-loop-i l = (l.i ≤ l.blocks) × (length l.path ≡ length l.initial.path) × (l.path ≡ copied_to l.file l.initial.path l.i)
-
-abbrev pub decreases-loop-i : goal.decreases-loop-i
-decreases-loop-i l = l.blocks - l.i
+invariant-loop-i l = (length l.path ≡ length l.initial.path) × (l.path ≡ copied_to l.file l.initial.path l.i)

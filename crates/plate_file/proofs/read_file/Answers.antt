@@ -1,26 +1,35 @@
 -- A refusal writes nothing; else the coordinates have room, and all are copied.
-use Rattle.std.proofs.Common.{◌∙◌, sym, ap, arith}
-use Rattle.rules.specs.HandedOver.{number_of, place_of, refusal}
-use Rattle.file_format.specs.PlateFile.{read_answer}
+use Rattle.std.proofs.Common.{◌≡◌, ◌*◌, ◌/◌, length, take, length-take-le, sym, arith}
+use Rattle.std.proofs.lemmas.Result.{err_from_is_err_and}
+use Rattle.rules.specs.HandedOver.{answer_of, number_of, place_of, refusal, over}
+use Rattle.file_laws.specs.Copying.{points_read}
 use Rattle.file_laws.specs.Calls.{read_refused, read_full, read_whole}
 use Rattle.plate_file.proofs.read_file.Goals as goal
 
-pub returns-in_default : goal.returns-in_default
-unfolding read_answer refusal
-returns-in_default c =
-    let o = read_refused c.args.file.now c.args.path.now _ _ (sym c.in_default.ensures) in
-    (ap read_answer c.in_default.is ∙ o.0, o.1)
+pub returns-in_err-points : goal.returns-in_err-points
+unfolding answer_of refusal
+returns-in_err-points c =
+    let p = err_from_is_err_and c.from_residual.result c.from_residual.ensures.1 in
+    rw (p.1, p.2) (read_refused c.args.file.now c.args.path.now _ _ (sym c.in_err-points.ensures))
 
-pub returns-then-path-points : goal.returns-then-path-points
-unfolding read_answer refusal number_of place_of
-returns-then-path-points c = read_full c.args.file.now c.args.path.now _ (sym c.in-Read.ensures) c.if-path-points.true
+pub returns-then-path-numbers : goal.returns-then-path-numbers
+unfolding answer_of refusal number_of place_of
+returns-then-path-numbers c = read_full c.args.file.now c.args.path.now _ (sym c.in_ok-points.ensures) c.if-path-numbers.true
 
-pub copy_blocks-requires : goal.copy_blocks-requires
-unfolding read_answer
-copy_blocks-requires c = (sym c.in-Read.ensures, omega (arith, c.if-path-points.false))
+pub copy_blocks-requires-clause-reads : goal.copy_blocks-requires-clause-reads
+unfolding answer_of
+copy_blocks-requires-clause-reads c =
+    let points = c.in_ok-points.points in
+    let e : length (take (2 * points) c.args.path.now) / 2 ≡ points = omega (arith, length-take-le (2 * points) c.args.path.now c.if-path-numbers.false) in
+    rw e (sym c.in_ok-points.ensures)
 
 pub returns : goal.returns
-unfolding read_answer
+unfolding answer_of over
 returns c =
-    let o = read_whole c.args.file.now c.args.path.now _ (sym c.in-Read.ensures) c.if-path-points.false in
-    (o.0, c.copy_blocks.ensures ∙ o.1)
+    let file = c.args.file.now in
+    let path = c.args.path.now in
+    let points = c.in_ok-points.points in
+    let reads = sym c.in_ok-points.ensures in
+    let o = read_whole file path points reads c.if-path-numbers.false in
+    let n = points_read file points reads in
+    (o.0, rw (c.copy_blocks.ensures, ← n) o.1)

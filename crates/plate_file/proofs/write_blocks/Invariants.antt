@@ -1,10 +1,7 @@
 -- The first i blocks are written.
-use Rattle.std.proofs.Common.{◌≡◌, ◌-◌, ◌≤◌, length}
+use Rattle.std.proofs.Common.{◌≡◌, length}
 use Rattle.file_laws.specs.Writing.{written_to}
 use Rattle.plate_file.proofs.write_blocks.Given as goal
 
 abbrev pub invariant-loop-i : goal.invariant-loop-i
-invariant-loop-i l = (l.i ≤ l.blocks) × (length l.file ≡ length l.initial.file) × (l.file ≡ written_to l.path l.initial.file l.i)
-
-abbrev pub decreases-loop-i : goal.decreases-loop-i
-decreases-loop-i l = l.blocks - l.i
+invariant-loop-i l = (length l.file ≡ length l.initial.file) × (l.file ≡ written_to l.path l.initial.file l.i)

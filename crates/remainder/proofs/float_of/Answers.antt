@@ -1,14 +1,11 @@
 -- `remainder::float_of` meets its contract.
 use native.Mathlib.Omega.{arith}
 use Rattle.remainder.proofs.Exact.{zero_float}
-use Rattle.remainder.proofs.Packing.{taken_few, pattern_most, pattern_not_nan, packs}
+use Rattle.remainder.proofs.Packing.{taken_few, pattern_not_nan, packs}
 use Rattle.remainder.proofs.float_of.Goals as goal
 
 pub returns-then-r-eq0 : goal.returns-then-r-eq0
 returns-then-r-eq0 c = zero_float c.args.r c.args.e c.if-r-eq0.true c.requires.1
-
-pub overflow_add-result : goal.overflow_add-result
-overflow_add-result c = omega (arith, pattern_most c.args.r c.args.e c.twos_taken-taken.result c.requires.1 c.twos_taken-taken.ensures)
 
 pub overflow_shl-result : goal.overflow_shl-result
 overflow_shl-result c = omega (arith, taken_few c.args.r c.args.e c.twos_taken-taken.result c.requires.1 c.twos_taken-taken.ensures (omega arith))

@@ -6,6 +6,6 @@ pub returns-then-reached : goal.returns-then-reached
 unfolding pick
 returns-then-reached c = rw c.if-reached.true c.remainder.ensures
 
-pub returns : goal.returns
+pub returns-else-reached : goal.returns-else-reached
 unfolding pick
-returns c = rw c.if-reached.false
+returns-else-reached c = rw c.if-reached.false

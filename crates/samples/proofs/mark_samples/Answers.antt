@@ -1,14 +1,15 @@
 -- A turn marks one contour more.
 use Rattle.std.proofs.Common.{refl, arith}
 use Rattle.plate.specs.Reading.{sum_step}
-use Rattle.samples.proofs.Marking.{so_far_step, so_far_done}
+use Rattle.samples.proofs.Marking.{run_some, run_none, so_far_step, so_far_done}
 use Rattle.samples.proofs.mark_samples.Goals as goal
+use Rattle.samples.proofs.mark_samples.Goals.{then-size-ne0, else-size-ne0}
 
-pub mark_contour-requires : goal.mark_contour-requires
-mark_contour-requires c =
-    let l = c.loop-i in
-    let t = sum_step c.args.lengths.now l.i c.loop-i-test.true in (
-      omega (arith, c.requires.0, c.loop-i-test.true),
+pub arc_length_sample_indices-requires : goal.arc_length_sample_indices-requires
+arc_length_sample_indices-requires c =
+    let l = c.loop-number in
+    let t = sum_step c.args.lengths.now l.number c.loop-number-test.true in (
+      omega (arith, c.requires.0, c.loop-number-test.true),
       omega (arith, l.invariant.total, t, c.requires.1, l.auto.owners),
       omega (arith, c.requires.2, l.auto.owners),
       omega (arith, c.requires.3, l.auto.owners),
@@ -16,11 +17,15 @@ mark_contour-requires c =
 
 pub overflow_add-first : goal.overflow_add-first
 overflow_add-first c =
-    omega (arith, c.loop-i.invariant.total, sum_step c.args.lengths.now c.loop-i.i c.loop-i-test.true, c.requires.1, c.requires.2)
+    omega (arith, c.loop-number.invariant.total, sum_step c.args.lengths.now c.loop-number.number c.loop-number-test.true, c.requires.1, c.requires.2)
 
-pub loop-i-preserved : goal.loop-i-preserved
-loop-i-preserved c =
-    so_far_step _ _ _ _ _ _ c.loop-i.i c.loop-i.invariant c.loop-i-test.true _ refl c.mark_contour.ensures
+pub loop-number-preserved : goal.loop-number-preserved
+loop-number-preserved c =
+    so_far_step _ _ _ _ _ _ c.loop-number.number c.loop-number.invariant c.loop-number-test.true _ refl
+    (elim c.if-size-ne0.branch [
+      | then-size-ne0 w ↦ rw w.owners-is (run_some _ _ _ _ _ _ w.if-size-ne0.true refl w.arc_length_sample_indices.ensures)
+      | else-size-ne0 w ↦ rw w.owners-is (run_none _ _ _ _ _ _ w.if-size-ne0.false)
+    ])
 
 pub returns : goal.returns
-returns c = so_far_done _ _ _ _ _ _ c.loop-i.invariant c.loop-i-test.false
+returns c = so_far_done _ _ _ _ _ _ c.loop-number.invariant c.loop-number-test.false

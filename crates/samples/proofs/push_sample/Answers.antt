@@ -7,7 +7,7 @@ pub returns-then-work-o-ne0 : goal.returns-then-work-o-ne0
 returns-then-work-o-ne0 c =
     let k = c.cell_at.ensures in
     let p = c.requires.0 in
-    pushed c.args.work.now _ _ c.args.lay.owners _ _ _ _ _ c.requires.2 p.laid.heads p.laid.next
+    pushed c.args.work.now _ _ c.args.frame.now.layout.owners _ _ _ _ _ c.requires.2 p.laid.heads p.laid.next
     (omega (arith, p.laid)) (omega (arith, k.1, p.cells)) c.requires.1
     (in_cell _ _ _ _ c.if-work-o-ne0.true (sym k.0))
     (λ b u. not_in_cell _ _ _ _ (λ e. u (sym e ∙ sym k.0)))

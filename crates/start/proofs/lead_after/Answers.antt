@@ -12,9 +12,9 @@ returns-in_default c = (c.first_lead.ensures.0, λ p e. rw c.in_default.is (c.fi
 pub returns-then-takes_lead : goal.returns-then-takes_lead
 unfolding leads_in leads lead_of pick
 returns-then-takes_lead c =
-    (c.requires.0, λ p e. rw c.in-Best.is (rw (sym (c.takes_lead.ensures p e) ∙ c.if-takes_lead.true)))
+    (c.requires.0, λ p e. rw c.in-Some.is (rw (sym (c.takes_lead.ensures p e) ∙ c.if-takes_lead.true)))
 
 pub returns : goal.returns
 unfolding leads_in leads lead_of pick
 returns c =
-    (rw c.in-Best.is at c.requires.1, λ p e. rw c.in-Best.is (rw (sym (c.takes_lead.ensures p e) ∙ c.if-takes_lead.false)))
+    (rw c.in-Some.is at c.requires.1, λ p e. rw c.in-Some.is (rw (sym (c.takes_lead.ensures p e) ∙ c.if-takes_lead.false)))

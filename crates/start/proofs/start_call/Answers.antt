@@ -1,36 +1,34 @@
 -- The rows that refuse, and behind them what leads.
-use Rattle.std.proofs.Common.{sym, ap, ◌∙◌}
-use Rattle.rules.specs.HandedOver.{plate, number_of, place_of, refusal, input_rows, start_answer}
+use Rattle.std.proofs.Common.{◌≡◌, Option, Some, None, sym, ap, ◌∙◌}
+use Rattle.std.proofs.lemmas.Result.{err_from_is_err_and}
+use Rattle.rules.specs.HandedOver.{answer_of, number_of, place_of, refusal, plate_of, plate_rows}
 use Rattle.rules.specs.Calls.{start_or, start_call}
+use Rattle.rules.specs.Start.{start}
+use Rattle.rules.specs.declared.Input.{Input}
 use Rattle.path.specs.Rows.{rows_give, rows_pass, refusal_refuses}
-use Rattle.path.specs.Accepted.{input_gives}
-use Rattle.plate.specs.Answer.{checked_answer}
 use Rattle.start.specs.Oriented.{contour_of, oriented_of, lead_of}
+use Rattle.start.specs.declared.Oriented.{Oriented}
 use Rattle.start.proofs.start_call.Goals as goal
+use Rattle.start.proofs.start_call.Goals.{In_ok-checked}
 
-pub returns-in-Unsound : goal.returns-in-Unsound
-unfolding start_answer start_call plate checked_answer
-returns-in-Unsound c =
-    let a = c.args in
-    refusal_refuses (input_rows a.points.now a.lengths.now a.layers.now a.strategy) _ _ _ c.in-Unsound.ensures
+pub returns-in_err-checked : goal.returns-in_err-checked
+unfolding answer_of start_call
+returns-in_err-checked c =
+    let p = err_from_is_err_and c.from_residual.result c.from_residual.ensures.1 in
+    rw (p.1, p.2) (refusal_refuses (plate_rows (plate_of c.args.input.now)) _ _ _ c.in_err-checked.ensures.answer)
 
-pub choose_start_contour-lead-requires : goal.choose_start_contour-lead-requires
-unfolding checked_answer
-choose_start_contour-lead-requires c =
-    let a = c.args in
-    let g = input_gives a.points.now a.lengths.now a.layers.now a.strategy _ _ (sym c.in_default.ensures) in
-    (g.0, g.1.counted)
+-- what is led by is the start's, of what was handed over
+behind : (c : In_ok-checked) (lead : Option Oriented) → lead_of lead ≡ start (plate_of c.in_ok-checked.checked.input) →
+    start_or (lead_of lead) ≡ start_call (plate_of c.args.input.now)
+unfolding answer_of start_call
+behind c lead e =
+    ap start_or (e ∙ ap (λ (i : Input). start (plate_of i)) c.in_ok-checked.ensures.same)
+    ∙ sym (rows_pass (plate_rows (plate_of c.args.input.now)) (rows_give _ _ _ (sym c.in_ok-checked.ensures.answer)).0 _)
 
-pub returns-in_default-lead : goal.returns-in_default-lead
-unfolding start_answer start_call plate checked_answer number_of place_of refusal start_or lead_of
-returns-in_default-lead c =
-    let a = c.args in
-    ap start_or c.in_default-lead.ensures
-    ∙ sym (rows_pass (input_rows a.points.now a.lengths.now a.layers.now a.strategy) (rows_give _ _ _ (sym c.in_default.ensures)).0 _)
+pub returns-in_default : goal.returns-in_default
+unfolding answer_of number_of place_of refusal start_or lead_of
+returns-in_default c = behind (goal.at.returns-in_default c).In_ok-checked None c.in_default.ensures
 
 pub returns : goal.returns
-unfolding start_answer start_call plate checked_answer start_or lead_of oriented_of contour_of
-returns c =
-    let a = c.args in
-    ap start_or c.in-Best.ensures
-    ∙ sym (rows_pass (input_rows a.points.now a.lengths.now a.layers.now a.strategy) (rows_give _ _ _ (sym c.in_default.ensures)).0 _)
+unfolding answer_of start_or lead_of oriented_of contour_of
+returns c = behind (goal.at.returns c).In_ok-checked (Some c.in-Some.s) c.in-Some.ensures

@@ -1,6 +1,6 @@
--- `straight::join_straight_line` meets its contract. Assumes nothing.
-use Rattle.std.proofs.Common.{List, ℕ, ◌*◌, take, ap, ◌∙◌, arith}
-use Rattle.rules.specs.HandedOver.{plate, over}
+-- The words of an order are readable, and their runs are its vertices.
+use Rattle.std.proofs.Common.{List, ℕ, ◌*◌, ◌/◌, length, take, ap, ◌∙◌}
+use Rattle.rules.specs.HandedOver.{plate, plate_of, over}
 use Rattle.rules.specs.RetraceAndMarks.{coordinates}
 use Rattle.straight.specs.Runs.{runs}
 use Rattle.straight.proofs.Ordered.{order_runs, order_readable}
@@ -9,13 +9,13 @@ use Rattle.straight.proofs.join_straight_line.Goals as goal
 pub write_contours-requires : goal.write_contours-requires
 unfolding plate
 write_contours-requires c =
-    let p = plate c.args.points.now c.args.lengths.now c.args.layers.now c.args.width c.args.height c.args.strategy in
-    (rw c.optimize_path_order-count.ensures.1 (order_readable p c.requires.0), omega (arith, c.requires.2))
+    let i = c.args.checked.now in
+    rw c.optimize_path_order-count.ensures.words (order_readable (plate_of i.input) i.accepted)
 
 pub returns : goal.returns
 unfolding plate
 returns c =
-    let p = plate c.args.points.now c.args.lengths.now c.args.layers.now c.args.width c.args.height c.args.strategy in
+    let i = c.args.checked.now in
     c.write_contours.ensures
-    ∙ ap (λ (vs : List ℕ). over (take (2 * c.args.room) (coordinates c.args.points.now vs)) c.args.path.now)
-    (ap (runs c.args.lengths.now) c.optimize_path_order-count.ensures.1 ∙ order_runs p c.requires.0)
+    ∙ ap (λ (vs : List ℕ). over (take (2 * (length c.args.path.now / 2)) (coordinates i.input.points.now vs)) c.args.path.now)
+    (ap (runs i.input.lengths.now) c.optimize_path_order-count.ensures.words ∙ order_runs (plate_of i.input) i.accepted)

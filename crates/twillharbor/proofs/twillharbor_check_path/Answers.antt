@@ -10,8 +10,8 @@ use Rattle.twillharbor.proofs.twillharbor_check_path.Goals as goal
 pub returns : goal.returns
 unfolding CheckDecides CheckPlaces
 returns c =
-    let answer = c.check_path-answer.result in
-    let e = c.check_path-answer.ensures in
+    let answer = c.check_path.result in
+    let e = c.check_path.ensures in
     let r = c.check_result.ensures in (
       r ∙ ap check_result e.0,
       e.1,

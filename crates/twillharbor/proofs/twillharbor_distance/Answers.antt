@@ -7,8 +7,8 @@ use Rattle.twillharbor.specs.Refusals.{distance_other}
 use Rattle.twillharbor.proofs.twillharbor_distance.Goals as goal
 
 pub distance_result-requires : goal.distance_result-requires
-distance_result-requires c = subst (Other 12) (sym c.distance_call-answer.ensures) (distance_other _ _)
+distance_result-requires c = subst (Other 12) (sym c.distance_call.ensures) (distance_other _ _)
 
 pub returns : goal.returns
 unfolding point_of
-returns c = c.distance_result.ensures ∙ ap distance_result c.distance_call-answer.ensures
+returns c = c.distance_result.ensures ∙ ap distance_result c.distance_call.ensures

@@ -5,4 +5,4 @@ use Rattle.twillharbor.specs.Refusals.{order_other}
 use Rattle.twillharbor.proofs.twillharbor_order.Goals as goal
 
 pub order_result-requires : goal.order_result-requires
-order_result-requires c = subst (Other 12) (sym c.order_call-answer.ensures.0) (order_other _ _ _)
+order_result-requires c = subst (Other 12) (sym c.order_call.ensures.answer) (order_other _ _ _)

@@ -5,4 +5,4 @@ use Rattle.twillharbor.specs.Refusals.{start_other}
 use Rattle.twillharbor.proofs.twillharbor_start.Goals as goal
 
 pub start_result-requires : goal.start_result-requires
-start_result-requires c = subst (Other 12) (sym c.start_call-answer.ensures) (start_other _)
+start_result-requires c = subst (Other 12) (sym c.start_call.ensures) (start_other _)

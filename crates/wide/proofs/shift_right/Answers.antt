@@ -6,7 +6,7 @@ use Rattle.wide.proofs.shift_right.Goals as goal
 pub returns-then-d-lt128 : goal.returns-then-d-lt128
 returns-then-d-lt128 c =
     let l = c.shift_right_below_64-c in
-    shift_far c.args.w.hi c.args.w.lo c.args.d l.result.hi l.result.lo l.result.sticky c.sticky_bit.result c.sticky_bit-then-d-lt128.result
+    shift_far c.args.w.hi c.args.w.lo c.args.d l.result.value.hi l.result.value.lo l.result.sticky c.sticky_bit.result c.sticky_bit-then-d-lt128.result
     (omega arith) (omega arith) c.if-d-lt64.false l.ensures.0 l.ensures.1 c.sticky_bit.ensures.0 c.sticky_bit-then-d-lt128.ensures.0
 
 pub returns : goal.returns

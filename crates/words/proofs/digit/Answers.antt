@@ -1,18 +1,21 @@
 -- `words::digit` gives the value of a hexadecimal digit.
-use Rattle.words.proofs.Spelling.{below_digits, a_digit, between, a_letter, above_letters}
+use Rattle.std.proofs.Common.{◌∙◌, arith}
+use Rattle.words.proofs.Spelling.{a_digit, a_letter, no_hex_digit}
 use Rattle.words.proofs.digit.Goals as goal
 
-pub returns-then-b-lt48 : goal.returns-then-b-lt48
-returns-then-b-lt48 c = below_digits _ c.if-b-lt48.true
+pub returns-in-48-to-57 : goal.returns-in-48-to-57
+returns-in-48-to-57 c = (c.from.ensures ∙ a_digit c.args.b (omega arith) (omega arith), omega (arith, c.from.ensures))
 
-pub returns-then-b-le57 : goal.returns-then-b-le57
-returns-then-b-le57 c = a_digit _ c.if-b-lt48.false c.if-b-le57.true
+pub returns-in-97-to-102 : goal.returns-in-97-to-102
+returns-in-97-to-102 c =
+    let e = a_letter c.args.b (omega arith) (omega arith) in
+    (omega (arith, c.from-in-97-to-102.ensures, e), omega (arith, c.from-in-97-to-102.ensures))
 
-pub returns-then-b-lt97 : goal.returns-then-b-lt97
-returns-then-b-lt97 c = between _ c.if-b-le57.false c.if-b-lt97.true
+pub returns-in_default : goal.returns-in_default
+returns-in_default c = no_hex_digit c.args.b (λ h k. omega arith) (λ h k. omega arith)
 
-pub returns-then-b-le102 : goal.returns-then-b-le102
-returns-then-b-le102 c = a_letter _ c.if-b-lt97.false c.if-b-le102.true
+pub returns-in_default-2 : goal.returns-in_default-2
+returns-in_default-2 c = no_hex_digit c.args.b (λ h k. omega arith) (λ h k. omega arith)
 
-pub returns : goal.returns
-returns c = above_letters _ c.if-b-le102.false
+pub returns-in_default-3 : goal.returns-in_default-3
+returns-in_default-3 c = no_hex_digit c.args.b (λ h k. omega arith) (λ h k. omega arith)

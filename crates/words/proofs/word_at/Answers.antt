@@ -6,5 +6,5 @@ use Rattle.words.proofs.word_at.Goals as goal
 pub returns-then-i-text : goal.returns-then-i-text
 returns-then-i-text c = c.parse.ensures ∙ sym (present _ _ c.if-i-text.true)
 
-pub returns : goal.returns
-returns c = sym (missing _ _ c.if-i-text.false)
+pub returns-else-i-text : goal.returns-else-i-text
+returns-else-i-text c = sym (missing _ _ c.if-i-text.false)

@@ -1,4 +1,4 @@
--- `optimize::nearest::nearer` meets its contract. Assumes nothing.
+-- One more is chosen where nothing was, or where it is nearer.
 use Rattle.std.proofs.Common.{arith}
 use Rattle.rules.specs.Tools.{pick, leads}
 use Rattle.rules.specs.OrderAndStraight.{nearer_end}
@@ -9,12 +9,12 @@ use Rattle.optimize.proofs.nearest.nearer.Goals as goal
 
 pub returns-in_default : goal.returns-in_default
 unfolding leads choice_of Stands
-returns-in_default c = (rw c.in_default.is, λ ws s h e. (omega arith, e))
+returns-in_default c = record { leads = rw c.in_default.is; stands = λ ws s h e. (omega arith, e) }
 
-pub returns-then-new-old : goal.returns-then-new-old
+pub returns-then-oriented-old : goal.returns-then-oriented-old
 unfolding leads choice_of nearer_end oriented_of pick Stands
-returns-then-new-old c = (rw c.in-At.is (rw c.if-new-old.true), λ ws s h e. (omega arith, e))
+returns-then-oriented-old c = record { leads = rw c.in-Some.is (rw c.if-oriented-old.true); stands = λ ws s h e. (omega arith, e) }
 
 pub returns : goal.returns
 unfolding leads choice_of nearer_end oriented_of pick
-returns c = (rw c.in-At.is (rw c.if-new-old.false), λ ws s h e. later ws _ _ (rw c.in-At.is at s))
+returns c = record { leads = rw c.in-Some.is (rw c.if-oriented-old.false); stands = λ ws s h e. later ws _ _ (rw c.in-Some.is at s) }

@@ -1,7 +1,7 @@
--- `optimize::nearest::nearest_waiting` meets its contract. Assumes nothing.
+-- A turn takes one contour from those that wait.
 use Rattle.std.proofs.Common.{◌≡◌, List, map, get_or, refl, sym, ap, ap₂, ◌∙◌, min, arith}
 use Rattle.rules.specs.Tools.{highest_layer}
-use Rattle.rules.specs.HandedOver.{Contour, layer_at}
+use Rattle.rules.specs.HandedOver.{Contour, plate, plate_of, layer_at}
 use Rattle.rules.specs.Start.{layer_of}
 use Rattle.rules.specs.OrderAndStraight.{nearer_sense, nearer_end}
 use Rattle.path.specs.Lists.{All}
@@ -16,44 +16,44 @@ use Rattle.optimize.proofs.nearest.nearest_waiting.Goals as goal
 
 pub loop-i-init : goal.loop-i-init
 unfolding Stands choice_of lowest_of highest_layer
-loop-i-init c = (omega arith, tt, λ p cs e y f g. (sym (foremost_is (layer_of p) nearer_end _), refl))
+loop-i-init c = record { place = tt; lowest = refl; choice = λ cs e a. sym (foremost_is (layer_of (plate_of c.args.checked.now.input)) nearer_end _) }
 
-pub contour_at-c-requires : goal.contour_at-c-requires
-contour_at-c-requires c =
-    let w = c.requires.2 in
+pub contour_at-contour-requires : goal.contour_at-contour-requires
+contour_at-contour-requires c =
+    let w = c.requires in
     let h = c.loop-i-test.true in
     let i = c.loop-i.i in
     let k = word_placed _ _ w.0 w.1 w.2 i h in
     (rw (word_number _ _ w.0 w.1 w.2 i h) k.listed, omega (arith, word_length _ _ w.0 w.1 w.2 i h))
 
-pub choice_after-best-requires : goal.choice_after-best-requires
-choice_after-best-requires c =
-    let w = c.requires.2 in
+pub invariant_of-c : goal.invariant_of-c
+invariant_of-c c =
+    let w = c.requires in
     let h = c.loop-i-test.true in
     let i = c.loop-i.i in
     let k = word_placed _ _ w.0 w.1 w.2 i h in
-    let r = c.contour_at-c in
+    let r = c.contour_at-contour in
     let x : r.result.first.0 ≡ (get_or w.0 i blank).first = r.ensures.1 ∙ word_first _ _ w.0 w.1 w.2 i h in
     let y : r.result.last ≡ (get_or w.0 i blank).last = omega (arith, r.ensures.2, word_length _ _ w.0 w.1 w.2 i h) in
-    (omega (arith, x, y, k.small), omega (arith, x, y, k.inside, c.requires.0))
+    record { small = omega (arith, x, y, k.small); held = omega (arith, x, y, k.inside, c.args.checked.now.accepted.counted) }
 
 pub loop-i-preserved : goal.loop-i-preserved
-unfolding layer_at contour_of
+unfolding plate layer_at contour_of
 loop-i-preserved c =
     let l = c.loop-i in
     let h = c.loop-i-test.true in
-    let r = c.contour_at-c in
+    let r = c.contour_at-contour in
     let n = c.choice_after-best.ensures in
-    let w = c.requires.2 in
+    let p = plate_of c.args.checked.now.input in
+    let m : get_or c.args.checked.now.input.layers.now r.result.number 0 ≡ layer_at p (contour_of r.result) = refl in
+    let x = n.leads p refl l.invariant.lowest m in
     let word : (cs : List Contour) → _ ≡ map packed cs → All (Placed _) cs → contour_of r.result ≡ get_or cs l.i blank =
-    λ cs f g. word_contour _ _ cs f g l.i h _ r.ensures.0 r.ensures.1 r.ensures.2 in (
-      omega arith,
-      n.1 _ l.invariant.1 h (word_is _ _ w.0 w.1 w.2 l.i h ∙ ap packed (sym (word w.0 w.1 w.2))),
-      λ p cs e y f g.
-          let k = l.invariant.2 p cs e y f g in
-          let m : get_or c.args.layers.now r.result.number 0 ≡ layer_at p (contour_of r.result) = rw y refl in
-          let x = n.0 p e k.1 m in (
-            sym (scan_step p _ _ _ cs l.i (word_in _ _ cs f g l.i h) (x ∙ ap (λ (d : Contour). leads_in (layer_of p) nearer_end (choice_of l.best) (nearer_sense p c.args.q d)) (word cs f g))) ∙ k.0,
-            c.lower-lowest.ensures ∙ ap₂ min k.1 m ∙ sym (lowest_after p c.args.q (contour_of r.result) (choice_of l.best)) ∙ ap (lowest_of p) (sym x),
-          ),
-    )
+    λ cs f g. word_contour _ _ cs f g l.i h _ r.ensures.0 r.ensures.1 r.ensures.2 in
+    let w = c.requires in
+    record {
+      place = n.stands _ l.invariant.place h (word_is _ _ w.0 w.1 w.2 l.i h ∙ ap packed (sym (word w.0 w.1 w.2)));
+      lowest = c.min-lowest.ensures ∙ ap₂ min l.invariant.lowest m ∙ sym (lowest_after p c.args.q (contour_of r.result) (choice_of l.best)) ∙ ap (lowest_of p) (sym x);
+      choice = λ cs f g.
+          sym (scan_step p _ _ _ cs l.i (word_in _ _ cs f g l.i h) (x ∙ ap (λ (d : Contour). leads_in (layer_of p) nearer_end (choice_of l.best) (nearer_sense p c.args.q d)) (word cs f g)))
+          ∙ l.invariant.choice cs f g;
+    }

@@ -1,9 +1,0 @@
--- `grid::cell_number`: a cell's number is below that of the cells.
-use Rattle.std.proofs.Common.{arith}
-use Rattle.rules.specs.SamplesAndCache.{cell_number}
-use Rattle.grid.specs.Numbers.{number_below}
-use Rattle.grid.proofs.cell_number.Goals as goal
-
-pub returns : goal.returns
-unfolding cell_number
-returns c = omega (arith, number_below c.args.g c.requires.0 _ _ c.requires.1 c.requires.2)

@@ -1,0 +1,134 @@
+-- The loop over the waiting contours, in the code's frame and by its writer. Assumes nothing.
+use mathlib.Core.Path.{◌≡◌, ap, ◌∙◌}
+use mathlib.Core.List.{List, map}
+use Prim.Native.Nat.{ℕ, ◌+◌, ◌≤◌, ◌<◌}
+use native.Mathlib.Omega.{arith}
+use lib.Ieee.{Float}
+use lib.ListN.{length}
+use Rattle.std.specs.Prelude.{Result, Ok, Err, IsErr, Some, None}
+use Rattle.std.specs.Prelude as prelude
+use Rattle.rules.specs.Tools.{without}
+use Rattle.rules.specs.HandedOver.{Plate, vertex_at}
+use Rattle.rules.specs.SamplesAndCache.{Waiting, update, cells_around}
+use Rattle.rules.specs.RetraceAndMarks.{waiting_number, entered}
+use Rattle.path.specs.Lists.{All}
+use Rattle.path.specs.FiniteDistances.{OnPlate}
+use Rattle.start.specs.Oriented.{contour_of}
+use Rattle.grid.specs.declared.Grid.{Grid}
+use Rattle.layout.specs.Laid.{Laid}
+use Rattle.layout.specs.Parts.{from, KeptBelow, KeptFrom}
+use Rattle.samples.specs.declared.Frame.{Frame}
+use Rattle.prepare.specs.Prepared.{Prepared}
+use Rattle.history.specs.History.{points}
+use Rattle.caches.specs.Querying.{Querying}
+use Rattle.choosing.specs.declared.Candidate.{Candidate}
+use Rattle.path_points.specs.Pen.{Pen, Grows}
+use Rattle.path_points.specs.Writing.{reached, CanWrite, SameWriter, Written, Adds}
+use Rattle.path_points.specs.declared.Full.{Full}
+use Rattle.path_points.specs.declared.PathWriter.{PathWriter}
+use Rattle.joining.specs.Lines.{Lines}
+use Rattle.joining.specs.Joining.{Joined}
+use Rattle.joining.proofs.Candidates.{Within}
+use Rattle.joining.proofs.Looping.{Looping, Chooses, loop_pen, loop_fits, loop_some, loop_on_plate, loop_ends, loop_within, loop_turn, loop_full, loop_querying, loop_flags, loop_next}
+
+-- from the writer w, with the distances ds, so many turns have led to w' and ds'
+pub record Turning (f : Frame) (ls : List ℕ) (w : PathWriter) (ds : List Float) (turn : ℕ) (w' : PathWriter) (ds' : List Float) : Type 0 where
+  pub grid : w.grid.spatial ≡ f.grid.spatial
+  pub same : SameWriter w w'
+  pub looping : Looping f.points.now ls f.grid.spatial f.layout w.room w.count w.path.now w.marks.now w.work.now ds turn w'.count w'.path.now w'.marks.now w'.work.now ds'
+
+-- the path is then that of the rules, of so many points
+abbrev pub JoinedBy : Frame → List ℕ → PathWriter → List Float → PathWriter → Result (Unit {0}) Full → Type 0
+JoinedBy f ls w ds w' r =
+    Joined f.points.now ls f.grid.spatial f.layout w.room w.count w.path.now w.marks.now w.work.now ds (reached w.room w'.count r) w'.path.now w'.marks.now
+
+joined_err : (f : Frame) (ls : List ℕ) (w : PathWriter) (ds : List Float) (w' : PathWriter) (x : Full) → JoinedBy f ls w ds w' (Err x) →
+    (r : Result (Unit {0}) Full) → IsErr r → JoinedBy f ls w ds w' r
+joined_err f ls w ds w' x j (Ok _) n = absurd cc
+joined_err f ls w ds w' x j (Err _) n = j
+
+module _ (f : Frame) (ls : List ℕ) (w : PathWriter) (ds : List Float) (turn : ℕ) (w' : PathWriter) (ds' : List Float) (h : Turning f ls w ds turn w' ds') where
+  own_grid : w'.grid.spatial ≡ f.grid.spatial
+  own_grid = ap (λ (z : Grid). z.spatial) h.same.0 ∙ h.grid
+
+  pub turn_choice : (Laid f.layout (length w'.work.now)) × (f.layout.contours ≤ length ds') × (f.layout.contours ≤ length ls)
+  turn_choice = let (p, ws, steps, was, marked, e, y, few, j) = h.looping.can in (j.prepared.plated.laid, j.prepared.room, few)
+
+  pub turn_writes : CanWrite w'
+  turn_writes = rw (own_grid, h.same.1) (loop_pen _ _ _ _ _ _ _ _ _ _ _ _ _ _ _ _ h.looping)
+
+  pub turn_fits : w'.count ≤ w.room
+  turn_fits = loop_fits _ _ _ _ _ _ _ _ _ _ _ _ _ _ _ _ h.looping
+
+  pub turn_some : 1 ≤ w'.count
+  turn_some = loop_some _ _ _ _ _ _ _ _ _ _ _ _ _ _ _ _ h.looping
+
+  pub turn_on_plate : All OnPlate f.points.now
+  turn_on_plate = loop_on_plate _ _ _ _ _ _ _ _ _ _ _ _ _ _ _ _ h.looping
+
+  -- what the choice promises
+  abbrev pub ChoosesNow : prelude.Option Candidate → Type 0
+  ChoosesNow r =
+      Chooses f.points.now ls f.grid.spatial f.layout w.room w.count w.path.now w.marks.now w.work.now ds turn w'.count w'.path.now w'.marks.now w'.work.now ds'
+      h.looping r
+
+  pub turn_ends : ChoosesNow None → JoinedBy f ls w ds w' (Ok tt)
+  turn_ends n = loop_ends _ _ _ _ _ _ _ _ _ _ _ _ _ _ _ _ h.looping n
+
+  module _ (r : Candidate) (n : ChoosesNow (Some r)) where
+    pub turn_within : Within f.points.now f.layout r.contour r.entry.0
+    turn_within = loop_within _ _ _ _ _ _ _ _ _ _ _ _ _ _ _ _ h.looping r n
+
+    pub turn_left : turn < f.layout.contours
+    turn_left = loop_turn _ _ _ _ _ _ _ _ _ _ _ _ _ _ _ _ h.looping r n
+
+    pub turn_small : turn < 4096
+    turn_small = omega (arith, turn_left, turn_choice.0.contours_small)
+
+    -- the candidate has entered, or the path was full
+    module _ (w'' : PathWriter) (s : Result (Unit {0}) Full) (same : SameWriter w' w'') (written : Written w' w'' s)
+        (adds : (p : Plate) (v : Waiting) → p.points ≡ f.points.now → v.contour ≡ contour_of r.contour → r.contour.first.0 + v.kept.entry ≡ r.entry.0 →
+        Adds f.points.now w' w'' s (λ ss. entered p w'.grid.spatial ss v)) where
+      abbrev k : ℕ
+      k = reached w.room w''.count s
+
+      pub turn_same : SameWriter w w''
+      turn_same =
+          (same.0 ∙ h.same.0, same.1 ∙ h.same.1, same.2 ∙ h.same.2, same.3 ∙ h.same.3, same.4 ∙ h.same.4)
+
+      pen : Pen f.grid.spatial w.room k w''.path.now w''.marks.now w''.work.now
+      pen = rw (own_grid, h.same.1) at written.pen
+
+      kept : KeptFrom (2916 + w.room) w'.work.now w''.work.now
+      kept = rw h.same.1 at written.kept
+
+      drawn : (p : Plate) (v : Waiting) → p.points ≡ f.points.now → v.contour ≡ contour_of r.contour → r.contour.first.0 + v.kept.entry ≡ r.entry.0 →
+          Grows f.points.now w.room w'.count k w'.path.now w''.path.now w'.marks.now w''.marks.now (λ ss. entered p f.grid.spatial ss v)
+      drawn p v e of entry = rw (own_grid, h.same.1) at (adds p v e of entry)
+
+      joined_full : w.room < k → JoinedBy f ls w ds w'' s
+      joined_full m = loop_full _ _ _ _ _ _ _ _ _ _ _ _ _ _ _ _ h.looping r n _ _ _ _ pen kept written.same_work drawn m
+
+      module _ (fits : k ≤ w.room) where
+        pub turn_querying : Querying f.points.now f.grid.spatial f.layout ds' w''.work.now w''.path.now k
+        turn_querying = loop_querying _ _ _ _ _ _ _ _ _ _ _ _ _ _ _ _ h.looping r n _ _ _ _ pen kept written.same_work drawn fits
+
+        pub turn_flags : (i : ℕ) → i < f.layout.cells → from w''.work.now f.layout.flags i < turn + 1
+        turn_flags = loop_flags _ _ _ _ _ _ _ _ _ _ _ _ _ _ _ _ h.looping r n _ _ _ _ pen kept written.same_work drawn
+
+        -- and was settled
+        pub turn_next : (work : List ℕ) (ds'' : List Float) → length work ≡ length w''.work.now → Prepared f.points.now f.grid.spatial f.layout ds'' work →
+            KeptBelow f.layout.flags w''.work.now work → ((i : ℕ) → i < f.layout.cells → from work f.layout.flags i ≤ turn + 1) →
+            ((p : Plate) (ws : List Waiting) → p.points ≡ f.points.now → Lines f.points.now f.grid.spatial f.layout ds' w''.work.now ws →
+            Lines f.points.now f.grid.spatial f.layout ds'' work
+            (map (update p f.grid.spatial (points w''.path.now k) (cells_around (vertex_at p (contour_of r.contour)) f.grid.spatial r.contour.last))
+            (without waiting_number r.contour.number ws))) →
+            Looping f.points.now ls f.grid.spatial f.layout w.room w.count w.path.now w.marks.now w.work.now ds (turn + 1) k w''.path.now w''.marks.now work ds''
+        turn_next work ds'' same_work prepared below flags settled =
+            loop_next _ _ _ _ _ _ _ _ _ _ _ _ _ _ _ _ h.looping r n _ _ _ _ pen kept written.same_work drawn fits ds'' work same_work prepared below flags settled
+
+    pub turn_full : (w'' : PathWriter) (x : Full) → SameWriter w' w'' → Written w' w'' (Err x) →
+        ((p : Plate) (v : Waiting) → p.points ≡ f.points.now → v.contour ≡ contour_of r.contour → r.contour.first.0 + v.kept.entry ≡ r.entry.0 →
+        Adds f.points.now w' w'' (Err x) (λ ss. entered p w'.grid.spatial ss v)) →
+        (s : Result (Unit {0}) Full) → IsErr s → JoinedBy f ls w ds w'' s
+    turn_full w'' x same written adds s m = joined_err f ls w ds w'' x (joined_full w'' (Err x) same written adds (omega arith)) s m

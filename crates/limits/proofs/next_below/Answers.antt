@@ -1,7 +1,0 @@
--- The pattern of `limits::next_below` is no NaN's.
-use Rattle.std.proofs.Common.{arith}
-use Rattle.std.proofs.lemmas.Float.{not_nan_f64_bits}
-use Rattle.limits.proofs.next_below.Goals as goal
-
-pub float_from_bits-result : goal.float_from_bits-result
-float_from_bits-result c = not_nan_f64_bits _ (omega arith)

@@ -1,0 +1,36 @@
+-- A path that is written: what its writer's slices hold before a call that adds to it, and after. Definitions only.
+use Rattle.std.specs.Prelude.{◌≡◌, List, ℕ, ◌+◌, ◌≤◌, Float, length, Result, Ok, Err, IfOk}
+use Rattle.rules.specs.RetraceAndMarks.{Step}
+use Rattle.layout.specs.Parts.{KeptFrom}
+use Rattle.path_points.specs.Pen.{Pen, Grows}
+use Rattle.path_points.specs.declared.Full.{Full}
+use Rattle.path_points.specs.declared.PathWriter.{PathWriter}
+
+-- how many path points there are, or room + 1 where they are more than there is room for
+abbrev pub reached : ℕ → ℕ → Result (Unit {0}) Full → ℕ
+reached room count (Ok _) = count
+reached room count (Err _) = room + 1
+
+-- the writer's slices have room, and hold the path so far
+abbrev pub CanWrite : PathWriter → Type 0
+CanWrite w = Pen w.grid.spatial w.room w.count w.path.now w.marks.now w.work.now
+
+-- a writer keeps its grid, its room and its slices
+abbrev pub SameWriter : PathWriter → PathWriter → Type 0
+SameWriter w w' =
+    (w'.grid ≡ w.grid) × (w'.room ≡ w.room) × (w'.path.ghost_name ≡ w.path.ghost_name)
+    × (w'.marks.ghost_name ≡ w.marks.ghost_name) × (w'.work.ghost_name ≡ w.work.ghost_name)
+
+-- what is true of it after more was written, if only as much as there was room for
+pub record Written (w w' : PathWriter) (r : Result (Unit {0}) Full) : Type 0 where
+  pub pen : Pen w.grid.spatial w.room (reached w.room w'.count r) w'.path.now w'.marks.now w'.work.now
+  pub fits : IfOk r (λ _. w'.count ≤ w.room)
+  pub more : w.count ≤ reached w.room w'.count r
+  pub kept : KeptFrom (2916 + w.room) w.work.now w'.work.now
+  pub same_path : length w'.path.now ≡ length w.path.now
+  pub same_marks : length w'.marks.now ≡ length w.marks.now
+  pub same_work : length w'.work.now ≡ length w.work.now
+
+-- whatever steps its slices hold before, they hold f of them after
+abbrev pub Adds : List Float → PathWriter → PathWriter → Result (Unit {0}) Full → (List Step → List Step) → Type 0
+Adds xs w w' r f = Grows xs w.room w.count (reached w.room w'.count r) w.path.now w'.path.now w.marks.now w'.marks.now f

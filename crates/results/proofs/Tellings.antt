@@ -1,0 +1,64 @@
+-- The struct of an answer, by its number and place and what it carries. Assumes nothing.
+use Rattle.std.proofs.Common.{◌≡◌, refl, ℕ, Bool, true, false}
+use Rattle.std.specs.Prelude.{pos, Float}
+use Rattle.std.specs.Float.{fin}
+use mir.Val.{bool_byte}
+use Rattle.rules.specs.Tools.{pick}
+use Rattle.rules.specs.HandedOver.{Answer, gives, refuses}
+use Rattle.rules.specs.declared.Counts.{Counts}
+use Rattle.results.specs.Results.{told, distance_result, start_result, order_result, straight_result, retrace_result, write_result, read_result}
+
+pub order_told : (a : Answer ℕ) → let t = told a 0 in record { number = t.0; place = t.1; entries = t.2 } ≡ order_result a
+unfolding told order_result
+order_told (gives m) = refl
+order_told (refuses n k) = refl
+
+pub straight_told : (a : Answer ℕ) → let t = told a 0 in record { number = t.0; place = t.1; points = t.2 } ≡ straight_result a
+unfolding told straight_result
+straight_told (gives m) = refl
+straight_told (refuses n k) = refl
+
+pub write_told : (a : Answer ℕ) → let t = told a 0 in record { number = t.0; place = t.1; bytes = t.2 } ≡ write_result a
+unfolding told write_result
+write_told (gives m) = refl
+write_told (refuses n k) = refl
+
+pub read_told : (a : Answer ℕ) → let t = told a 0 in record { number = t.0; place = t.1; points = t.2 } ≡ read_result a
+unfolding told read_result
+read_told (gives m) = refl
+read_told (refuses n k) = refl
+
+pub distance_told :
+    (a : Answer (Float × Float)) → let zero = fin false 0 (pos 0) in
+    let t = told a (zero, zero) in record { number = t.0; place = t.1; squared = t.2.0; plain = t.2.1 } ≡ distance_result a
+unfolding told distance_result
+distance_told (gives d) = refl
+distance_told (refuses n k) = refl
+
+byte : (b : Bool) → bool_byte b ≡ pick b 1 0
+unfolding pick
+byte true = refl
+byte false = refl
+
+pub start_told :
+    (a : Answer (ℕ × Bool)) →
+    let t = told a (0, false) in record { number = t.0; place = t.1; contour = t.2.0; reversed = bool_byte t.2.1 } ≡ start_result a
+unfolding told start_result
+start_told (gives s) = rw byte refl
+start_told (refuses n k) = refl
+
+pub retrace_told :
+    (a : Answer Counts) →
+    let t = told a (record { points = 0; cuts = 0; back_steps = 0; jumps = 0; touches = 0 }) in
+    record {
+      number = t.0;
+      place = t.1;
+      points = t.2.points;
+      cuts = t.2.cuts;
+      back_steps = t.2.back_steps;
+      jumps = t.2.jumps;
+      touches = t.2.touches;
+    } ≡ retrace_result a
+unfolding told retrace_result
+retrace_told (gives c) = refl
+retrace_told (refuses n k) = refl

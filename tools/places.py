@@ -85,11 +85,33 @@ def groups():
     return ['%d functions: %s' % (len(v), k) for k, v in sorted(uses.items(), key=lambda kv: -len(kv[1])) if len(v) >= 3]
 
 
+KEPT_WORDS = set('fn pub let mut if else for while loop match return in struct enum impl const use requires ensures ghost true false Ok Err Some None self as break'.split())
+
+
+def alike():
+    """the pairs of places with six lines or more of the same shape, names, texts and numbers aside"""
+    lines = []
+    for path, text in FILES.items():
+        for n, line in enumerate(text.split('\n'), 1):
+            line = line.strip()
+            if line and not line.startswith(('//', 'use ', 'ghost use', '#')):
+                line = re.sub(r'\b\d[\d_.a-z]*\b', 'N', re.sub(r'"[^"]*"', 'S', line))
+                lines.append((path, n, re.sub(r'[A-Za-z_]\w*', lambda m: m.group(0) if m.group(0) in KEPT_WORDS else 'i', line)))
+    windows = collections.defaultdict(list)
+    for k in range(len(lines) - 5):
+        window = tuple(line for _, _, line in lines[k:k + 6])
+        if lines[k][0] == lines[k + 5][0] and sum(len(line.replace('i', '').replace(' ', '')) > 2 for line in window) >= 3:
+            windows[window].append(k)
+    pairs = {(a, b) for ks in windows.values() for a in ks for b in ks if b - a >= 6}
+    return ['%s:%d and %s:%d' % (lines[a][:2] + lines[b][:2]) for a, b in sorted(pairs) if (a - 1, b - 1) not in pairs]
+
+
 ROWS = {
     '1a': ('own enums', lambda: lines(r'^\s*(pub )?enum ')),
     '1b': ('values that stand for none, told in a comment', lambda: lines(
         r"//.*\bor (the slice's length|room \+ 1|how many there are|the number of words|4\b|16\b|0\b)|//.*(the count of contours where none|stands for no lead|the number of no contour)", comments=True)),
     '1c': ('numbers for kinds', lambda: lines(r'\bkind: u32|\bkind == |const (START|CUT|BACK_STEP|JUMP|TOUCH|HOME|UNENTERED|ENTERED|NOT_DRAWN)\b|== HOME|HOME <|from\.number ==')),
+    '2': ('pairs of six lines or more of the same shape', alike),
     '3': ('loops that count', counted_loops),
     '3r': ('for over a range', lambda: lines(r'^\s*for \w+ in [^{]*\.\.')),
     '4a': ('functions that are a cast', casts),

@@ -6,15 +6,12 @@ ghost use Rattle.rules.specs.Bits.{same_float, same_point};
 
 use rules::Point;
 
-// Whether two floats have the same bits, every NaN being one. By `==` 0 and −0 are one and a NaN is none, by `total_cmp` NaNs differ: neither serves.
+// Whether two floats have the same bits, every NaN being one. By `==` 0 and −0 are one and a NaN is none, and `total_cmp` takes no NaN: neither serves.
 pub fn same_bits(a: f64, b: f64) -> bool
     ensures { result ≡ same_float a b }
 {
-    if a.is_nan() {
-        return b.is_nan();
-    }
-    if b.is_nan() {
-        return false;
+    if a.is_nan() || b.is_nan() {
+        return a.is_nan() && b.is_nan();
     }
     a.to_bits() == b.to_bits()
 }

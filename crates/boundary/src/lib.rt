@@ -5,6 +5,7 @@ ghost use Rattle.std.specs.Prelude.{◌≡◌, ℕ, ◌+◌, ◌*◌, ◌<◌, p
 ghost use Rattle.std.specs.Float.{binary64};
 ghost use Rattle.std.specs.Float.Ieee.{of_int};
 
+use std::fmt::Display;
 use std::io;
 use std::num::nearest_usize_to_f64;
 
@@ -13,7 +14,8 @@ pub const ABOVE: f64 = 1000000.000000000116415321826934814453125;
 
 pub const BELOW: f64 = -1000000.000000000116415321826934814453125;
 
-// Points (0, 0), (1, 0), (2, 0) and so on, of a slice of zeros.
+// Points (0, 0), (1, 0), (2, 0) and so on, of a slice of zeros. By index: behind `chunks_exact_mut` a proof knows how long the slice is, and not
+// its elements.
 pub fn along(xs: &mut [f64])
     ensures len { length xs.new ≡ length xs.old }
     ensures firsts { (k : ℕ) (d : Float) → 2 * k + 1 < length xs.old → get_or xs.new (2 * k) d ≡ of_int binary64 (pos k) }
@@ -25,7 +27,12 @@ pub fn along(xs: &mut [f64])
 }
 
 // The case's name, the lengths of the slices lent, where they are told, and the call's numbers.
-pub fn tell<R: Print>(rt: &R, name: &str, lengths: &[usize], numbers: &[u64]) -> io::Result<()> {
+pub fn tell<R: Print, N: Display>(
+    rt: &R,
+    name: &str,
+    lengths: &[usize],
+    numbers: &[N],
+) -> io::Result<()> {
     print!(rt; "{name}")?;
     if !lengths.is_empty() {
         print!(rt; ", slices of")?;

@@ -7,3 +7,4 @@ pub mod Sweeps
 pub mod Walks
 pub mod Changes
 pub mod Nearby
+pub mod Leaving

@@ -1,11 +1,12 @@
 // The caches of the waiting contours: of each the least squared distance that was found from a sample to the path, and that sample.
 #![tactic(auto)]
 
-ghost use Rattle.std.specs.Prelude.{◌≡◌, ℕ, ◌+◌, ◌*◌, ◌≤◌, ◌<◌, length, get_or, set};
+ghost use Rattle.std.specs.Prelude.{◌≡◌, ℕ, ◌+◌, ◌*◌, ◌/◌, ◌≤◌, ◌<◌, List, Float, length, get_or, set};
 ghost use Rattle.std.specs.Float.{nan};
-ghost use Rattle.rules.specs.Tools.{foldl};
-ghost use Rattle.rules.specs.HandedOver.{vertex_at};
-ghost use Rattle.rules.specs.SamplesAndCache.{cells_around, seed, update};
+ghost use Rattle.rules.specs.Tools.{foldl, sum};
+ghost use Rattle.rules.specs.HandedOver.{Plate, contours_from, vertex_at};
+ghost use Rattle.rules.specs.SamplesAndCache.{waiting, cells_around, seed, update};
+ghost use Rattle.path.specs.Accepted.{Accepted};
 ghost use Rattle.path.specs.FiniteDistances.{OnPlate};
 ghost use Rattle.path.specs.Lists.{All};
 ghost use Rattle.start.specs.Oriented.{contour_of};
@@ -13,28 +14,73 @@ ghost use Rattle.layout.specs.Parts.{from, KeptBelow, KeptFrom};
 ghost use Rattle.listing.specs.Listing.{list_of};
 ghost use Rattle.history.specs.History as history;
 ghost use Rattle.history.specs.History.{Ready};
-ghost use Rattle.prepare.specs.Framed.{ChangedBy};
+ghost use Rattle.prepare.specs.Framed.{PreparedBy, HoldsBy, ChangedBy};
 ghost use Rattle.caches.specs.Held.{held, replaced};
 ghost use Rattle.caches.specs.Moved.{tried, Moved};
 ghost use Rattle.caches.specs.Framed.{QueryingBy, asked_by, tried_in_cell};
 
-use history::PathSoFar;
+use grid::Grid;
+use history::clear;
+use layout::laid_out;
 use listing::list_cells;
 use nearest::nearest;
+use prepare::prepare;
 use rules::{Nearest, Vertex, point_at};
 use samples::Frame;
 use start::Contour;
 
+// The slices before the start: no point is on the path, and every contour waits.
+pub fn set_up<'a>(
+    points: &'a [f64],
+    lengths: &[u32],
+    grid: Grid,
+    room: u32,
+    distances: &mut [f64],
+    work: &mut [u32],
+) -> Frame<'a>
+    requires accepted { Accepted points.now lengths.now }
+    requires small { room ≤ 1048576 }
+    requires distances_room { length lengths.now ≤ length distances.old }
+    requires work_room { room + 4 * sum lengths.now + 8 * length lengths.now + 16384 ≤ length work.old }
+    ensures points { result.points.now ≡ points.now }
+    ensures grid { result.grid.spatial ≡ grid.spatial }
+    ensures parts { (result.layout.flags ≡ 2916 + room) × (result.layout.points ≡ sum lengths.now)
+        × (result.layout.contours ≡ length lengths.now) }
+    ensures prepared { PreparedBy result distances.new work.new }
+    ensures ready { (path : List Float) → Ready grid.spatial path work.new 0 }
+    ensures flags { (k : ℕ) → k < result.layout.cells → from work.new result.layout.flags k ≡ 0 }
+    ensures held { (p : Plate) → p.points ≡ points.now →
+        All (λ c. HoldsBy result distances.new work.new (waiting p grid.spatial c)) (contours_from 0 0 lengths.now) }
+    ensures waits { (j : ℕ) → j < result.layout.contours → from work.new result.layout.waiting j ≡ get_or lengths.now j 0 }
+{
+    let cells = (grid.spatial.cols as usize) * (grid.spatial.rows as usize);
+    let layout = laid_out(
+        2916 + (room as usize),
+        points.len() / 2,
+        cells,
+        lengths.len(),
+    );
+    let frame = Frame {
+        points,
+        grid,
+        layout,
+    };
+    clear(&mut *work);
+    prepare(&frame, lengths, &mut *distances, &mut *work);
+    frame
+}
+
 // What the path answers for a vertex.
-fn ask(frame: &Frame<'_>, work: &[u32], v: Vertex, path: &PathSoFar<'_>) -> Nearest
+fn ask(frame: &Frame<'_>, work: &[u32], v: Vertex, path: &[f64]) -> Nearest
     requires { (2 * v.0 + 1 < length frame.now.points.now) × (All OnPlate frame.now.points.now)
-        × (Ready frame.now.grid.spatial path.now.points.now work.now path.now.count) }
+        × (Ready frame.now.grid.spatial path.now work.now (length path.now / 2)) }
     ensures { result ≡ asked_by frame.now path.now v.0 }
 {
     nearest(frame.grid, path, work, point_at(frame.points, v))
 }
 
 // Replaces contour j's cache, whose entry lies at e, by what was found at vertex v, if that is strictly nearer.
+// An entry is a vertex's number, since what the caller lends is a slice of u32.
 fn improve(distances: &mut [f64], work: &mut [u32], j: usize, e: usize, v: Vertex, found: Nearest)
     requires { (j < length distances.old) × (e < length work.old) }
     ensures { let k = replaced (held (get_or distances.old j nan) (get_or work.old e 0)) v.0 found in
@@ -49,14 +95,9 @@ fn improve(distances: &mut [f64], work: &mut [u32], j: usize, e: usize, v: Verte
 }
 
 // Queries a vertex for its contour, if it is a sample and the contour waits.
+// A vertex's owner is 0, or one more than a contour's number, and the length of a contour that waits no more is 0: a lent u32 holds no `Option`.
 // The two lent slices stay parameters: a struct of them would add to each contract that they stay the same slices.
-fn try_sample(
-    frame: &Frame<'_>,
-    distances: &mut [f64],
-    work: &mut [u32],
-    v: Vertex,
-    path: &PathSoFar<'_>,
-)
+fn try_sample(frame: &Frame<'_>, distances: &mut [f64], work: &mut [u32], v: Vertex, path: &[f64])
     requires { (QueryingBy frame.now distances.old work.old path.now) × (v.0 < frame.now.layout.points) }
     ensures { let w = work.old in
         Moved frame.now.layout distances.old w distances.new work.new
@@ -79,10 +120,10 @@ fn try_sample(
 }
 
 // After the start: queries every sample of every waiting contour.
-pub fn seed_caches(frame: &Frame<'_>, distances: &mut [f64], work: &mut [u32], path: &PathSoFar<'_>)
+pub fn seed_caches(frame: &Frame<'_>, distances: &mut [f64], work: &mut [u32], path: &[f64])
     requires { QueryingBy frame.now distances.old work.old path.now }
     ensures { (ChangedBy frame.now distances.old work.old distances.new work.new
-        (λ p c. seed p frame.now.grid.spatial (history.points path.now.points.now path.now.count) c))
+        (λ p c. seed p frame.now.grid.spatial (history.points path.now (length path.now / 2)) c))
         × (KeptBelow frame.now.layout.entries work.old work.new) × (KeptFrom frame.now.layout.heads work.old work.new) }
 {
     let n = frame.layout.points as u32;
@@ -92,14 +133,8 @@ pub fn seed_caches(frame: &Frame<'_>, distances: &mut [f64], work: &mut [u32], p
 }
 
 // Queries the samples of a cell, in the order of their vertices: by contour, then vertex.
-// The links of a chain lie in the lent slice, for the library has no heap, so it is walked by hand.
-fn scan_cell(
-    frame: &Frame<'_>,
-    distances: &mut [f64],
-    work: &mut [u32],
-    cell: u32,
-    path: &PathSoFar<'_>,
-)
+// The links of a chain lie in the lent slice of u32, for the library has no heap: it is walked by hand, and 0 ends it.
+fn scan_cell(frame: &Frame<'_>, distances: &mut [f64], work: &mut [u32], cell: u32, path: &[f64])
     requires { (QueryingBy frame.now distances.old work.old path.now) × (cell < frame.now.layout.cells) }
     ensures { let w = work.old in
         Moved frame.now.layout distances.old w distances.new work.new (λ j k. tried_in_cell frame.now w path.now j k cell) }
@@ -115,14 +150,8 @@ fn scan_cell(
     }
 }
 
-// Queries the samples of the cells listed, cell by cell.
-fn scan_listed(
-    frame: &Frame<'_>,
-    distances: &mut [f64],
-    work: &mut [u32],
-    cells: u32,
-    path: &PathSoFar<'_>,
-)
+// Queries the samples of the cells listed, cell by cell. By index, for the listed cells lie in the slice that `scan_cell` writes.
+fn scan_listed(frame: &Frame<'_>, distances: &mut [f64], work: &mut [u32], cells: u32, path: &[f64])
     requires { (QueryingBy frame.now distances.old work.old path.now) × (cells ≤ frame.now.layout.cells)
         × ((i : ℕ) → i < cells → from work.old frame.now.layout.list i < frame.now.layout.cells) }
     ensures { let w = work.old in
@@ -143,16 +172,42 @@ pub fn update_nearby_caches(
     work: &mut [u32],
     turn: u32,
     c: Contour,
-    path: &PathSoFar<'_>,
+    path: &[f64],
 )
     requires { (QueryingBy frame.now distances.old work.old path.now) × (c.first.0 + c.last < frame.now.layout.points)
         × ((k : ℕ) → k < frame.now.layout.cells → from work.old frame.now.layout.flags k < turn) }
     ensures { (ChangedBy frame.now distances.old work.old distances.new work.new
-        (λ p d. update p frame.now.grid.spatial (history.points path.now.points.now path.now.count)
+        (λ p d. update p frame.now.grid.spatial (history.points path.now (length path.now / 2))
         (cells_around (vertex_at p (contour_of c)) frame.now.grid.spatial c.last) d))
         × (KeptBelow frame.now.layout.flags work.old work.new) × (KeptFrom frame.now.layout.heads work.old work.new)
         × ((k : ℕ) → k < frame.now.layout.cells → from work.new frame.now.layout.flags k ≤ turn) }
 {
     let cells = list_cells(frame, &mut *work, turn, c);
     scan_listed(frame, &mut *distances, &mut *work, cells as u32, path);
+}
+
+// A contour that was emitted waits no more, and the caches around it are updated.
+pub fn settle(
+    frame: &Frame<'_>,
+    distances: &mut [f64],
+    work: &mut [u32],
+    turn: u32,
+    c: Contour,
+    path: &[f64],
+)
+    requires querying { QueryingBy frame.now distances.old work.old path.now }
+    requires number { c.number < frame.now.layout.contours }
+    requires within { c.first.0 + c.last < frame.now.layout.points }
+    requires flags { (k : ℕ) → k < frame.now.layout.cells → from work.old frame.now.layout.flags k < turn }
+    ensures prepared { PreparedBy frame.now distances.new work.new }
+    ensures changed { ChangedBy frame.now distances.old (set work.old (frame.now.layout.waiting + c.number) 0) distances.new work.new
+        (λ p d. update p frame.now.grid.spatial (history.points path.now (length path.now / 2))
+        (cells_around (vertex_at p (contour_of c)) frame.now.grid.spatial c.last) d) }
+    ensures kept { KeptBelow frame.now.layout.flags work.old work.new }
+    ensures above { KeptFrom frame.now.layout.heads (set work.old (frame.now.layout.waiting + c.number) 0) work.new }
+    ensures flags { (k : ℕ) → k < frame.now.layout.cells → from work.new frame.now.layout.flags k ≤ turn }
+{
+    let a = frame.layout.waiting + (c.number as usize);
+    work[a] = 0;
+    update_nearby_caches(frame, &mut *distances, &mut *work, turn, c, path);
 }

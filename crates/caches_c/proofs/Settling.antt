@@ -1,23 +1,21 @@
 -- A contour waits no more, and the caches of the others are updated around it. Assumes nothing.
 use mathlib.Core.Path.{◌≡◌, sym, ap, subst, ◌∙◌}
 use mathlib.Core.List.{List}
-use Prim.Native.Nat.{ℕ, ◌+◌, ◌-◌, ◌<◌}
+use Prim.Native.Nat.{ℕ, ◌+◌, ◌<◌}
 use native.Mathlib.Omega.{arith}
 use lib.Ieee.{Float}
-use lib.ListN.{length, get_or, set, length-set}
-use lib.Seq.{get_or-set_other}
+use lib.ListN.{length, get_or, set}
 use Rattle.rules.specs.HandedOver.{Plate, Contour, contours, contours_from, vertex_at}
 use Rattle.rules.specs.SamplesAndCache.{waiting, seed, update, cells_around}
 use Rattle.rules.specs.declared.Point.{Point}
 use Rattle.rules.specs.declared.SpatialGrid.{SpatialGrid}
 use Rattle.path.specs.Lists.{All, all_give}
 use Rattle.layout.specs.Laid.{Laid}
-use Rattle.layout.specs.Parts.{from, KeptBelow}
+use Rattle.layout.specs.Parts.{from}
 use Rattle.layout.specs.declared.Layout.{Layout}
 use Rattle.prepare.specs.Holds.{Holds, Changed}
-use Rattle.prepare.specs.Staying.{prepared_left, holds_left}
+use Rattle.prepare.specs.Staying.{holds_left}
 use Rattle.history.specs.History.{points}
-use Rattle.history.specs.Appending.{ready_kept}
 use Rattle.caches.specs.Querying.{Querying}
 use Rattle.start.specs.declared.Contour as code
 use Rattle.start.specs.Oriented.{contour_of}
@@ -27,37 +25,20 @@ use Rattle.caches_c.proofs.Staying.{told}
 
 module _ (xs : List Float) (g : SpatialGrid) (lay : Layout) (ds : List Float) (w : List ℕ) (count number : ℕ)
     (q : Querying xs g lay ds w xs count) (l : number < lay.contours) where
-  abbrev left : List ℕ
-  left = set w (lay.waiting + number) 0
-
   laid : Laid lay (length w)
   laid = q.prepared.plated.laid
 
-  left_below : KeptBelow lay.flags w left
-  left_below i m = get_or-set_other w (lay.waiting + number) i 0 0 (λ e. omega (arith, laid))
-
-  pub left_flag : (k : ℕ) → k < lay.cells → from left lay.flags k ≡ from w lay.flags k
-  left_flag k m = get_or-set_other w (lay.waiting + number) (lay.flags + k) 0 0 (λ e. omega (arith, laid))
-
-  pub left_querying : Querying xs g lay ds left xs count
-  left_querying =
-      record {
-        prepared = prepared_left xs g lay ds w laid number q.prepared;
-        ready = ready_kept g xs w left count lay.flags q.ready left_below q.apart (length-set w (lay.waiting + number) 0);
-        apart = q.apart;
-      }
-
   -- c is the contour as the code has read it
   pub settled : (c : code.Contour) (ds' : List Float) (w' : List ℕ) → c.number ≡ number → c.first.0 ≡ from w lay.firsts number →
-      c.last ≡ from w lay.waiting number - 1 →
-      Changed xs g lay ds left ds' w' (λ p d. update p g (points xs count) (cells_around (vertex_at p (contour_of c)) g c.last) d) →
+      c.last + 1 ≡ from w lay.waiting number →
+      Changed xs g lay ds (set w (lay.waiting + c.number) 0) ds' w' (λ p d. update p g (points xs count) (cells_around (vertex_at p (contour_of c)) g c.last) d) →
       Settled xs g lay number count ds w ds' w'
-  unfolding contour_of
+  unfolding contour_of vertex_at
   settled c ds' w' en ef el h p e d same a f z apart held =
       let first : c.first.0 ≡ e.first = ef ∙ f in
       let last : c.last ≡ e.last = omega (arith, el, z) in
       let is : contour_of c ≡ e = λ i. record { number = (en ∙ sym a) i; first = first i; last = last i } in
-      rw (sym is) (h p same d (holds_left xs g lay ds w laid number l d apart held))
+      rw (sym is) ((rw en at h) p same d (holds_left xs g lay ds w laid number l d apart held))
 
 -- ---- all contours but the one that was emitted
 

@@ -2,7 +2,8 @@
 use mathlib.Core.Path.{◌≡◌, refl, ap, subst, ◌∙◌}
 use mathlib.Core.Logic.{inl, inr}
 use mathlib.Core.List.{List, [], ◌∷◌}
-use Prim.Native.Nat.{ℕ, zero, suc, ◌+◌, ◌≤◌, ◌<◌}
+use Prim.Native.Nat.{ℕ, zero, suc, ◌+◌, ◌*◌, ◌/◌, ◌≤◌, ◌<◌}
+use native.Mathlib.Nat.{le_refl}
 use native.Mathlib.Omega.{arith}
 use lib.Ieee.{Float}
 use lib.ListN.{length, get_or}
@@ -23,6 +24,8 @@ use Rattle.prepare.specs.Prepared.{prepared_kept}
 use Rattle.prepare.specs.Staying.{holds_kept}
 use Rattle.history.specs.History.{Ready}
 use Rattle.history.specs.Appending.{ready_kept}
+use Rattle.history.specs.Cut.{cut, count_cut, ready_cut, ready_uncut}
+use Rattle.caches.specs.Querying.{Querying}
 use Rattle.caches_c.specs.Stages.{Stage}
 
 -- the contour with number j, where it is not empty
@@ -42,9 +45,13 @@ module _ (xs : List Float) (ns : List ℕ) (g : SpatialGrid) (room : ℕ) (lay :
   laid = s.querying.prepared.plated.laid
 
   -- further points are on the path
-  pub grown : (w' : List ℕ) (count : ℕ) → Ready g xs w' count → KeptFrom (2916 + count) w w' → count ≤ room → length w' ≡ length w →
+  pub grown : (w' : List ℕ) (count : ℕ) → 2 * count ≤ length xs → (let path = cut xs count in
+      Ready g path w' (length path / 2) × (KeptFrom (2916 + length path / 2) w w')) → count ≤ room → length w' ≡ length w →
       Stage xs ns g room lay ds w' count f
-  grown w' count ready kept fits same =
+  grown w' count long h fits same =
+      let n = count_cut xs count long in
+      let ready = ready_uncut xs count long g w' count (le_refl count) (rw n at h.0) in
+      let kept = rw n at h.1 in
       record {
         start = s.start;
         points = s.points;
@@ -60,6 +67,16 @@ module _ (xs : List Float) (ns : List ℕ) (g : SpatialGrid) (room : ℕ) (lay :
         held = λ p e.
             all_give _ _ (λ c h. holds_kept xs g lay ds w w' laid (λ i l. kept i (omega (arith, laid, s.start))) (f p c) h) (contours_from 0 0 ns)
             (s.held p e);
+      }
+
+  -- what is asked by a path of as many points, and by the slice of them alone
+  pub querying_cut : 2 * k ≤ length xs → (let path = cut xs k in Querying xs g lay ds w path (length path / 2))
+  querying_cut long =
+      rw (count_cut xs k long)
+      record {
+        prepared = s.querying.prepared;
+        ready = ready_cut xs k long g w k (le_refl k) s.querying.ready;
+        apart = s.querying.apart;
       }
 
   -- every cache is changed

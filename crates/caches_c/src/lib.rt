@@ -7,80 +7,19 @@ ghost use Rattle.rules.specs.Tools.{sum};
 ghost use Rattle.rules.specs.HandedOver.{Plate};
 ghost use Rattle.rules.specs.Box.{box};
 ghost use Rattle.rules.specs.GridAndNearest.{grid_of};
-ghost use Rattle.rules.specs.SamplesAndCache.{waiting};
 ghost use Rattle.path.specs.Accepted.{Accepted};
 ghost use Rattle.layout.specs.Laid.{Laid};
 ghost use Rattle.layout.specs.Parts.{from};
 ghost use Rattle.prepare.specs.Holds.{Holds};
 ghost use Rattle.history.specs.History as history;
-ghost use Rattle.caches.specs.Querying.{Querying};
 ghost use Rattle.grid_c.specs.Results.{accepted};
 ghost use Rattle.caches_c.specs.Results.{has_path, has_slices, Shows, Others};
-ghost use Rattle.caches_c.specs.Stages.{Stage, Settled};
 
-use caches::{seed_caches, update_nearby_caches};
+use caches::{seed_caches, set_up, settle};
 use grid::Grid;
 use grid_c::{accepted_points, grid_for, insert_run};
-use history::{PathSoFar, clear};
-use layout::{Layout, laid_out};
-use prepare::prepare;
-use rules::Vertex;
-use samples::Frame;
-use start::Contour;
-
-// The slices before the start: no point is on the path, and every contour waits.
-fn set_up(
-    points: &[f64],
-    lengths: &[u32],
-    grid: Grid,
-    room: u32,
-    distances: &mut [f64],
-    work: &mut [u32],
-) -> Layout
-    requires { (Accepted points.now lengths.now) × (room ≤ 65536) × (length lengths.now ≤ length distances.old)
-        × (376832 ≤ length work.old) }
-    ensures { Stage points.now lengths.now grid.spatial room result distances.new work.new 0 (λ p c. waiting p grid.spatial c) }
-{
-    let cells = (grid.spatial.cols as usize) * (grid.spatial.rows as usize);
-    let layout = laid_out(
-        2916 + (room as usize),
-        points.len() / 2,
-        cells,
-        lengths.len(),
-    );
-    let frame = Frame {
-        points,
-        grid,
-        layout,
-    };
-    clear(&mut *work);
-    prepare(&frame, lengths, &mut *distances, &mut *work);
-    layout
-}
-
-// A contour that was emitted waits no more, and the caches around it are updated.
-fn settle(frame: &Frame<'_>, distances: &mut [f64], work: &mut [u32], number: u32, count: u32)
-    requires { (Querying frame.now.points.now frame.now.grid.spatial frame.now.layout distances.old work.old frame.now.points.now count)
-        × (number < frame.now.layout.contours) × (1 ≤ from work.old frame.now.layout.waiting number)
-        × (from work.old frame.now.layout.firsts number + from work.old frame.now.layout.waiting number ≤ frame.now.layout.points)
-        × ((k : ℕ) → k < frame.now.layout.cells → from work.old frame.now.layout.flags k ≡ 0) }
-    ensures { Settled frame.now.points.now frame.now.grid.spatial frame.now.layout number count distances.old work.old distances.new work.new }
-{
-    let lay = frame.layout;
-    let f = lay.firsts + (number as usize);
-    let a = lay.waiting + (number as usize);
-    let c = Contour {
-        number,
-        first: Vertex(work[f]),
-        last: work[a] - 1,
-    };
-    work[a] = 0;
-    let path = PathSoFar {
-        points: frame.points,
-        count,
-    };
-    update_nearby_caches(frame, &mut *distances, &mut *work, 1, c, &path);
-}
+use layout::Layout;
+use prepare::waiting_contour;
 
 // Seeds the caches by the first `before` points, and updates them around a contour by the first `count`.
 fn caches_around(
@@ -100,22 +39,15 @@ fn caches_around(
         × ((p : Plate) → p.points ≡ xs → p.lengths ≡ ns →
         Others p grid.spatial number (history.points xs before) (history.points xs count) (Holds xs grid.spatial result distances.new work.new)) }
 {
-    let layout = set_up(points, lengths, grid, count, &mut *distances, &mut *work);
-    let frame = Frame {
-        points,
-        grid,
-        layout,
-    };
-    let path = PathSoFar {
-        points,
-        count: before,
-    };
-    let longer = PathSoFar { points, count };
-    insert_run(grid, &path, &mut *work, 0);
-    seed_caches(&frame, &mut *distances, &mut *work, &path);
-    insert_run(grid, &longer, &mut *work, before);
-    settle(&frame, &mut *distances, &mut *work, number, count);
-    layout
+    let frame = set_up(points, lengths, grid, count, &mut *distances, &mut *work);
+    let path = &points[..2 * before as usize];
+    let longer = &points[..2 * count as usize];
+    insert_run(grid, path, &mut *work, 0);
+    seed_caches(&frame, &mut *distances, &mut *work, path);
+    insert_run(grid, longer, &mut *work, before);
+    let c = waiting_contour(&*work, frame.layout, number);
+    settle(&frame, &mut *distances, &mut *work, 1, c, longer);
+    frame.layout
 }
 
 // Copies the cached entries of all contours.
@@ -136,32 +68,19 @@ fn contour_length(lengths: &[u32], number: u32) -> u32
 }
 
 // Whether a plate of n points has such a path, and the contour that was emitted has a point.
+#[tactic(auto, unfolding(crate::specs::Results::has_path))]
 fn has_path(n: u32, size: u32, before: u32, count: u32) -> bool
     ensures { result ≡ has_path n size before count }
 {
-    if n == 0 {
-        return false;
-    }
-    if size == 0 {
-        return false;
-    }
-    if count < before {
-        return false;
-    }
-    count <= n
+    n != 0 && size != 0 && before <= count && count <= n
 }
 
 // Whether the work slice is long enough, and the others are of m contours.
+#[tactic(auto, unfolding(crate::specs::Results::has_slices))]
 fn has_slices(m: usize, work: usize, distances: usize, entries: usize) -> bool
     ensures { result ≡ has_slices m work distances entries }
 {
-    if work < 376832 {
-        return false;
-    }
-    if m != distances {
-        return false;
-    }
-    m == entries
+    376832 <= work && m == distances && m == entries
 }
 
 // Leaves the squared distance and the entry of each waiting contour in the slices, after the contour of a number was emitted: the first

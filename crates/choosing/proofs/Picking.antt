@@ -4,7 +4,7 @@ use mathlib.Core.Bool.{Bool, true, false}
 use mathlib.Core.List.{List, [], ◌∷◌, map}
 use mathlib.Core.Option
 use mathlib.Core.Option.{Option, none, some, map-eq-none_iff, map-eq-some_iff}
-use Prim.Native.Nat.{ℕ, zero, suc, ◌-◌}
+use Prim.Native.Nat.{ℕ, zero, suc, ◌+◌}
 use native.Mathlib.Omega.{arith}
 use native.Mathlib.Decide.{ℕ_discrete}
 use lib.ListN.{get_or}
@@ -20,6 +20,7 @@ use Rattle.path.specs.Lists.{All, all_give}
 use Rattle.path.specs.Layers.{beats_in, taking, leads_in, foremost_has}
 use Rattle.path.proofs.Layers.{foremost_is}
 use Rattle.start.specs.Oriented.{contour_of}
+use Rattle.start.specs.declared.Contour as code
 use Rattle.layout.specs.Parts.{from}
 use Rattle.layout.specs.declared.Layout.{Layout}
 use Rattle.prepare.specs.Holds.{Holds}
@@ -27,6 +28,7 @@ use Rattle.choosing.specs.Leader.{closer_by, layer_by}
 use Rattle.choosing.specs.Lined.{waiters_from, Lined}
 use Rattle.choosing.specs.Lining.{waiters_skip, waiters_take}
 use Rattle.choosing.specs.Picks.{Picks}
+use Rattle.choosing.specs.declared.Candidate.{Candidate}
 
 -- ---- it waits
 
@@ -104,9 +106,9 @@ module _ (p : Plate) (ls : List ℕ) (same : p.layers ≡ ls) (ds : List Float) 
 
 -- ---- as the slices have it
 
-contour_is : (c : Contour) (number first size : ℕ) → c.number ≡ number → first ≡ c.first → size ≡ suc c.last →
-    ◌≡◌ {A = Contour} (record { number = number; first = first; last = size - 1 }) c
-contour_is c number first size n f s = let l : size - 1 ≡ c.last = omega arith in rw (sym n, f, l)
+contour_is : (c : Contour) (k : code.Contour) → k.number ≡ c.number → k.first.0 ≡ c.first → k.last + 1 ≡ suc c.last → contour_of k ≡ c
+unfolding contour_of
+contour_is c k n f s = let l : k.last ≡ c.last = omega arith in rw (n, f, l)
 
 module _ (lay : Layout) (ls : List ℕ) (ds : List Float) (w : List ℕ) where
   abbrev pub first_one : Option ℕ
@@ -125,21 +127,16 @@ module _ (lay : Layout) (ls : List ℕ) (ds : List Float) (w : List ℕ) where
     pub none_chosen : none ≡ first_one → choose p ws ≡ none
     none_chosen led = (map-eq-none_iff waiting_number (choose p ws)).0 (sym (led ∙ leader_is))
 
-    pub candidate_chosen : (r : ℕ) → some r ≡ first_one →
-        Picks
-        (Some (record {
-          contour = record { number = r; first = record { 0 = from w lay.firsts r }; last = from w lay.waiting r - 1 };
-          entry = record { 0 = from w lay.entries r };
-        }))
-        (choose p ws)
-    unfolding choose waiting_number contour_of
-    candidate_chosen r led =
+    pub candidate_chosen : (k : Candidate) (r : ℕ) → some r ≡ first_one → k.contour.number ≡ r → k.contour.first.0 ≡ from w lay.firsts r →
+        k.contour.last + 1 ≡ from w lay.waiting r → k.entry.0 ≡ from w lay.entries r → Picks (Some k) (choose p ws)
+    unfolding choose waiting_number
+    candidate_chosen k r led n f l v =
         let o = (map-eq-some_iff waiting_number (choose p ws)).0 (sym (led ∙ leader_is)) in
         let c = o.0 in
         let h = foremost_has (waiting_layer p) closer (Holds xs g lay ds w) ws held c o.1 in
         let e : c.contour.number ≡ r = o.2 in (
           c,
           o.1,
-          contour_is c.contour r _ _ e (ap (from w lay.firsts) (sym e) ∙ h.first) (ap (from w lay.waiting) (sym e) ∙ h.waits),
-          ap (from w lay.entries) (sym e) ∙ h.entry,
+          contour_is c.contour k.contour (n ∙ sym e) (f ∙ ap (from w lay.firsts) (sym e) ∙ h.first) (l ∙ ap (from w lay.waiting) (sym e) ∙ h.waits),
+          v ∙ ap (from w lay.entries) (sym e) ∙ h.entry,
         )

@@ -1,7 +1,7 @@
 // The choice of the contour that enters the path next, by the lent slices.
 #![tactic(auto)]
 
-ghost use Rattle.std.specs.Prelude.{◌≡◌, ℕ, List, ◌≤◌, ◌<◌, eqb, Float, length, IfSome};
+ghost use Rattle.std.specs.Prelude.{◌≡◌, ℕ, List, ◌≤◌, ◌<◌, Float, length, IfSome};
 ghost use Rattle.rules.specs.Tools.{pick, foremost};
 ghost use Rattle.rules.specs.HandedOver.{Plate};
 ghost use Rattle.rules.specs.SamplesAndCache.{Waiting};
@@ -17,8 +17,10 @@ ghost use Rattle.choosing.specs.Lined.{waiters_from, Lined};
 ghost use Rattle.choosing.specs.Picks.{Picks};
 
 use layout::Layout;
+use prepare::waiting_contour;
 use rules::{HIGHEST_LAYER, Vertex};
 use start::Contour;
+use std::cmp::Ordering;
 
 // The waiting contour that enters the path next, and the vertex that it is entered at.
 #[derive(Clone, Copy)]
@@ -27,57 +29,60 @@ pub struct Candidate {
     pub entry: Vertex,
 }
 
-// The lead after contour j, which waits unless `waits`, the slice's number, is 0. What is above the highest layer takes no part: only the first lead is held to that,
-// for a lead loses to no higher layer.
+// The lead after contour j. What is above the highest layer takes no part: only the first lead is held to that, for a lead loses to no higher layer.
+// Who leads by layers is no generic function with `start`'s and `optimize`'s: each keeps another kind of lead. `start` keeps ends, compared by the
+// strategy; here it is a number, compared by the cached distances; `optimize` keeps a place, behind a filter that saves exact sums.
+#[tactic(auto, using(crate::proofs::Leading::by_layers), unfolding(rules::specs::Tools::pick, rules::specs::Tools::leads, rules::specs::Tools::highest_layer, path::specs::Layers::leads_in, crate::specs::Leader::layer_by, crate::specs::Leader::closer_by, crate::specs::Leader::leader_of))]
 fn lead_after(
     distances: &[f64],
     layers: &[u32],
     lead: Option<usize>,
     j: usize,
-    waits: u32,
+    waits: bool,
 ) -> Option<usize>
     requires reached { (j < length distances.now) × (j < length layers.now) }
     requires led { IfSome lead (λ best. (best < length distances.now) × (best < length layers.now)) }
     ensures led { (n : ℕ) → j < n → IfSome lead (λ best. best < n) → IfSome result (λ best. best < n) }
     ensures leads { leader_of result
-        ≡ pick (eqb waits 0) (leader_of lead) (leads_in (layer_by layers.now) (closer_by distances.now) (leader_of lead) j) }
+        ≡ pick waits (leads_in (layer_by layers.now) (closer_by distances.now) (leader_of lead) j) (leader_of lead) }
 {
-    if waits == 0 {
+    if !waits {
         return lead;
     }
     let Some(best) = lead else {
-        if HIGHEST_LAYER < layers[j] {
-            return None;
-        }
-        return Some(j);
+        return (layers[j] <= HIGHEST_LAYER).then_some(j);
     };
-    if layers[j] == layers[best] {
-        if distances[j] < distances[best] {
-            return Some(j);
+    match layers[j].cmp(&layers[best]) {
+        Ordering::Less => Some(j),
+        Ordering::Equal => {
+            if distances[j] < distances[best] {
+                Some(j)
+            } else {
+                lead
+            }
         }
-        return lead;
+        Ordering::Greater => lead,
     }
-    if layers[j] < layers[best] {
-        return Some(j);
-    }
-    lead
 }
 
 // Of the waiting contours of the lowest layer that with the least cached distance, the lowest on ties.
+#[tactic(auto, using(crate::proofs::Leading::led_start, crate::proofs::Leading::led_end), unfolding(crate::specs::Leader::leader_of))]
 fn closest(distances: &[f64], layers: &[u32], work: &[u32], lay: Layout) -> Option<usize>
     requires { (Laid lay (length work.now)) × (lay.contours ≤ length distances.now) × (lay.contours ≤ length layers.now) }
     ensures led { IfSome result (λ best. best < lay.contours) }
     ensures foremost { leader_of result
         ≡ foremost (layer_by layers.now) (closer_by distances.now) (waiters_from (from work.now lay.waiting) 0 lay.contours) }
 {
+    let waiting = &work[lay.waiting..lay.waiting + lay.contours];
     let mut lead = None;
-    for j in 0..lay.contours {
-        lead = lead_after(distances, layers, lead, j, work[lay.waiting + j]);
+    for (j, &w) in waiting.iter().enumerate() {
+        lead = lead_after(distances, layers, lead, j, w != 0);
     }
     lead
 }
 
 // The waiting contour that the rules choose, where the slices hold all that wait.
+#[tactic(auto, using(crate::proofs::Picking::leader_waits, crate::proofs::Picking::none_chosen), unfolding(crate::specs::Leader::leader_of))]
 pub fn choose_waiting(
     distances: &[f64],
     layers: &[u32],
@@ -90,11 +95,7 @@ pub fn choose_waiting(
         All (Holds xs g lay distances.now work.now) ws → Picks result (Retrace.choose p ws) }
 {
     let j = closest(distances, layers, work, lay)?;
-    let contour = Contour {
-        number: j as u32,
-        first: Vertex(work[lay.firsts + j]),
-        last: work[lay.waiting + j] - 1,
-    };
+    let contour = waiting_contour(work, lay, j as u32);
     let entry = Vertex(work[lay.entries + j]);
     Some(Candidate { contour, entry })
 }

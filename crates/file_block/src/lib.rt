@@ -17,9 +17,9 @@ use file_format::{
 use little_endian::{put, put_f64s, read};
 use plate::{PLATE_LIMIT, in_range};
 
-const SIGN_BIT: u64 = 9223372036854775808;
+const SIGN_BIT: u64 = 1 << 63;
 
-const INFINITY_BITS: u64 = 9218868437227405312;
+const INFINITY_BITS: u64 = f64::to_bits(f64::INFINITY);
 
 // The two checks of a block.
 #[derive(Clone, Copy)]
@@ -28,7 +28,8 @@ struct Checks {
     second: u64,
 }
 
-// 126 words: their sums stay far below 2^64, so that one remainder at the end is enough.
+// 126 words: their sums stay far below 2^64, so that one remainder at the end is enough. (No `from_le_bytes` here and in `all_on_plate`: its contract has another
+// definition of the number, a sum over the bytes. `read`'s is that of the whole file format, so that one definition serves all.)
 fn sum_words(bytes: &[u8]) -> Checks
     requires { 504 ≤ length bytes.now }
     ensures { Checked bytes.now result.first result.second }
@@ -70,7 +71,7 @@ fn is_clear(bytes: &[u8]) -> bool
     bytes.iter().all(|&b| b == 0)
 }
 
-// Whether a bit pattern is that of a number on the plate: a pattern beyond the infinities' is a NaN's.
+// Whether a bit pattern is that of a number on the plate: a pattern beyond the infinities' is a NaN's. No `is_nan`: `from_bits` takes no pattern of a NaN.
 fn on_plate(bits: u64) -> bool
     ensures { result ≡ in_range plate_limit (of_bits binary64 bits) }
 {

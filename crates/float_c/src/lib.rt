@@ -21,6 +21,7 @@ fn is_non_negative(x: f64) -> bool
     is_finite(x) && x.is_sign_positive()
 }
 
+// Here and below a NaN stands for a number outside the domain: C reads one f64.
 #[unsafe(no_mangle)]
 pub extern "C" fn twillharbor_float_square_plus(x: f64, y: f64) -> f64
     ensures { result ≡ square_plus x y }

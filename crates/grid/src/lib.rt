@@ -28,6 +28,7 @@ pub struct Grid {
 }
 
 // The box with one point more.
+#[tactic(auto, unfolding(rules::specs::Box::widen))]
 fn widened(b: BoundingBox, x: f64, y: f64) -> BoundingBox
     ensures { result ≡ widen b x y }
 {
@@ -43,12 +44,11 @@ fn widened(b: BoundingBox, x: f64, y: f64) -> BoundingBox
 pub fn polyline_bounding_box(points: &[f64]) -> BoundingBox
     ensures { result ≡ box points.now }
 {
-    let infinity = 1.0 / 0.0;
     let mut b = BoundingBox {
-        min_x: infinity,
-        min_y: infinity,
-        max_x: -infinity,
-        max_y: -infinity,
+        min_x: f64::INFINITY,
+        min_y: f64::INFINITY,
+        max_x: f64::NEG_INFINITY,
+        max_y: f64::NEG_INFINITY,
     };
     for pair in points.chunks_exact(2) {
         b = widened(b, pair[0], pair[1]);
@@ -65,6 +65,7 @@ fn cell_size(b: BoundingBox) -> f64
 }
 
 // The number of columns, or rows: the greatest coordinate and a margin of one cell lie within them.
+#[tactic(auto, unfolding(rules::specs::GridAndNearest::cells_along))]
 fn cells_along(size: f64, origin: f64, greatest: f64) -> u32
     requires { cells_along size origin greatest ≤ 54 }
     ensures { result ≡ cells_along size origin greatest }
@@ -73,6 +74,7 @@ fn cells_along(size: f64, origin: f64, greatest: f64) -> u32
 }
 
 // A point's column, or row, of `cells` many.
+#[tactic(auto, unfolding(rules::specs::GridAndNearest::index_along))]
 fn index_along(origin: f64, inverse: f64, cells: u32, x: f64) -> u32
     requires { 0 < cells }
     ensures { (result ≡ index_along origin inverse cells x) × (result < cells) }
@@ -101,6 +103,7 @@ impl Grid {
         Grid { spatial }
     }
 
+    #[tactic(auto, unfolding(rules::specs::GridAndNearest::cell_of))]
     pub fn cell_of(self, p: Point) -> Cell
         ensures { (result.col ≡ (cell_of self.spatial p).col) × (result.row ≡ (cell_of self.spatial p).row)
             × (result.col < self.spatial.cols) × (result.row < self.spatial.rows) }
@@ -113,6 +116,7 @@ impl Grid {
     }
 
     // A cell's number, row by row.
+    #[tactic(auto, using(crate::specs::Numbers::number_below), unfolding(rules::specs::SamplesAndCache::cell_number))]
     pub fn cell_number(self, c: Cell) -> u32
         requires { (c.col < self.spatial.cols) × (c.row < self.spatial.rows) }
         ensures { (result ≡ cell_number self.spatial (record { col = c.col; row = c.row })) × (result < self.spatial.cols * self.spatial.rows)

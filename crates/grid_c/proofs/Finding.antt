@@ -19,7 +19,7 @@ use Rattle.path.specs.Lists.{length_up_from}
 use Rattle.path.specs.Nearest.{all_seen}
 use Rattle.path.specs.Rings.{scan_keeps}
 use Rattle.history.specs.History.{points}
-use Rattle.grid_c.specs.Results.{place_number, ask}
+use Rattle.grid_c.specs.Results.{place_number}
 
 nearer_below : (n : ℕ) (b : Nearest) (c : PathPoint) → c.place < n → place_number b ≤ n → place_number (nearer b c) ≤ n
 unfolding nearer found pick place_number
@@ -36,7 +36,7 @@ nearest_below g ps q =
     scan_keeps (λ c. c.place < length ps) (λ b. place_number b ≤ length ps) (nearer_below (length ps)) g (cell_of g q) (seen_from g q 0 ps)
     (all_seen (λ c. c.place < length ps) g q q ps 0 (λ k l. rw zero-add l)) (max g.cols g.rows) 0 Nothing (omega arith)
 
-pub ask_below : (g : SpatialGrid) (xs : List Float) (count v : ℕ) → place_number (ask g xs count v) ≤ count
-unfolding ask ask_path points
-ask_below g xs count v =
-    rw (length-map (up_from 0 count) (at xs) ∙ length_up_from 0 count) at (nearest_below g (points xs count) (at xs v))
+pub answer_below : (g : SpatialGrid) (xs path : List Float) (count v : ℕ) → place_number (ask_path (at xs) g (points path count) v) ≤ count
+unfolding ask_path points
+answer_below g xs path count v =
+    rw (length-map (up_from 0 count) (at path) ∙ length_up_from 0 count) at (nearest_below g (points path count) (at xs v))

@@ -1,6 +1,7 @@
 -- What is known of a plate of n points that has a grid, and what the tests of the slices' lengths tell. Assumes nothing.
-use Rattle.std.specs.Prelude.{◌≡◌, refl, Bool, true, false, ◌&&◌, List, ℕ, ◌+◌, ◌/◌, ◌≤◌, ◌<◌, ltb, leb, Float, length}
-use Rattle.std.proofs.Common.{sym, ap, true≢false, arith}
+use Rattle.std.specs.Prelude.{◌≡◌, refl, true, List, ℕ, ◌+◌, ◌/◌, ◌≤◌, ◌<◌, ltb, leb, Float, length}
+use Rattle.std.proofs.Common.{ap, arith}
+use Rattle.std.proofs.lemmas.Bool.{and_parts}
 use borrow.Author.Tests.{ltb-true, leb-true}
 use Rattle.rules.specs.Tools.{sum}
 use Rattle.rules.specs.HandedOver.{Answer, gives, refuses, refusal, refused_by, contour_rows}
@@ -43,21 +44,17 @@ refused_none r (refuses number place) e = refl
 
 -- ---- the slices
 
-both : (a b : Bool) → (a && b) ≡ true → (a ≡ true) × (b ≡ true)
-both true b e = (refl, e)
-both false b e = let z : ◌≡◌ {A = Bool} false true = e in absurd (true≢false (sym z))
-
 module _ (xs : List Float) (ns : List ℕ) (n : ℕ) (is : n ≡ accepted xs ns) where
   pub room_told : (room : ℕ) → has_room n room ≡ true → Gridded xs ns n × (n ≤ room)
   unfolding has_room
-  room_told room e = let w = both (ltb 0 n) (leb n room) e in (gridded xs ns n is (ltb-true 0 n w.0), leb-true n room w.1)
+  room_told room e = let w = and_parts (ltb 0 n) (leb n room) e in (gridded xs ns n is (ltb-true 0 n w.0), leb-true n room w.1)
 
   pub query_room_told : (count work places squared : ℕ) → has_query_room n count work places squared ≡ true →
       Gridded xs ns n × (n ≤ places) × (n ≤ squared) × (count ≤ n) × (2916 + count ≤ work)
   unfolding has_query_room
   query_room_told count work places squared e =
-      let a = both _ (leb (2916 + count) work) e in
-      let b = both _ (leb count n) a.0 in
-      let d = both (has_room n places) (leb n squared) b.0 in
+      let a = and_parts _ (leb (2916 + count) work) e in
+      let b = and_parts _ (leb count n) a.0 in
+      let d = and_parts (has_room n places) (leb n squared) b.0 in
       let room = room_told places d.0 in
       (room.0, room.1, leb-true n squared d.1, leb-true count n b.1, leb-true (2916 + count) work a.1)

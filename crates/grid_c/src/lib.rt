@@ -8,17 +8,17 @@ ghost use Rattle.rules.specs.HandedOver.{at};
 ghost use Rattle.rules.specs.Start.{centre};
 ghost use Rattle.rules.specs.Box.{box};
 ghost use Rattle.rules.specs.GridAndNearest.{grid_of};
-ghost use Rattle.rules.specs.SamplesAndCache.{cell_at};
+ghost use Rattle.rules.specs.SamplesAndCache.{cell_at, ask_path};
 ghost use Rattle.path.specs.Lists.{All};
 ghost use Rattle.path.specs.FiniteDistances.{OnPlate};
 ghost use Rattle.bounds.specs.Boxes.{Sound};
 ghost use Rattle.layout.specs.Parts.{KeptFrom};
 ghost use Rattle.samples.specs.Owners.{MarkedAll};
+ghost use Rattle.history.specs.History as history;
 ghost use Rattle.history.specs.History.{Ready};
 ghost use Rattle.grid_c.specs.Results.{accepted, grid_result, no_grid, center_result, has_room, written, place_number, squared_number, ask, has_query_room};
 
 use grid::{Grid, polyline_bounding_box};
-use history::PathSoFar;
 use plate::check_contours;
 use rules::{Nearest, PathPlace, Point, SpatialGrid, Vertex, path_point, point_at};
 use samples::mark_samples;
@@ -134,29 +134,29 @@ pub extern "C" fn twillharbor_grid_cells(points: &[f64], lengths: &[u32], cells:
     true
 }
 
-// Puts the points from place `start` on on the path, in order: place k is vertex k.
-pub fn insert_run(g: Grid, path: &PathSoFar<'_>, work: &mut [u32], start: u32)
-    requires { (All OnPlate path.now.points.now) × (2 * path.now.count ≤ length path.now.points.now) × (path.now.count ≤ 65536)
-        × (2916 + path.now.count ≤ length work.old) × (start ≤ path.now.count) × (Ready g.spatial path.now.points.now work.old start) }
-    ensures { (Ready g.spatial path.now.points.now work.new path.now.count) × (KeptFrom (2916 + path.now.count) work.old work.new) }
+// Puts the path's points from place `start` on in the chains of their cells, in order.
+pub fn insert_run(g: Grid, path: &[f64], work: &mut [u32], start: u32)
+    requires { (All OnPlate path.now) × (length path.now / 2 ≤ 65536) × (2916 + length path.now / 2 ≤ length work.old)
+        × (start ≤ length path.now / 2) × (Ready g.spatial path.now work.old start) }
+    ensures { (Ready g.spatial path.now work.new (length path.now / 2)) × (KeptFrom (2916 + length path.now / 2) work.old work.new) }
 {
-    for k in start..path.count {
-        let p = path_point(path.points, PathPlace(k));
+    let count = (path.len() / 2) as u32;
+    for k in start..count {
+        let p = path_point(path, PathPlace(k));
         history::insert(g, &mut *work, PathPlace(k), p);
     }
 }
 
 // Makes the path's points its history.
-fn insert_all(g: Grid, path: &PathSoFar<'_>, work: &mut [u32])
-    requires { (All OnPlate path.now.points.now) × (2 * path.now.count ≤ length path.now.points.now) × (path.now.count ≤ 65536)
-        × (2916 + path.now.count ≤ length work.old) }
-    ensures { Ready g.spatial path.now.points.now work.new path.now.count }
+fn insert_all(g: Grid, path: &[f64], work: &mut [u32])
+    requires { (All OnPlate path.now) × (length path.now / 2 ≤ 65536) × (2916 + length path.now / 2 ≤ length work.old) }
+    ensures { Ready g.spatial path.now work.new (length path.now / 2) }
 {
     history::clear(&mut *work);
     insert_run(g, path, &mut *work, 0);
 }
 
-// One more than the place that was found, or 0, as the slice that C reads has it.
+// One more than the place that was found, or 0: C reads the answer from a slice of u32, which holds no `Option`.
 fn place_number(answer: Nearest) -> u32
     requires { place_number answer ≤ 65536 }
     ensures { result ≡ place_number answer }
@@ -167,7 +167,7 @@ fn place_number(answer: Nearest) -> u32
     }
 }
 
-// The squared distance that was found, or 0, as the slice that C reads has it.
+// The squared distance that was found, or 0, in the slice of f64 that C reads.
 fn squared_number(answer: Nearest) -> f64
     ensures { result ≡ squared_number answer }
 {
@@ -178,16 +178,27 @@ fn squared_number(answer: Nearest) -> f64
 }
 
 // Queries the path for every vertex.
-fn query_all(g: Grid, path: &PathSoFar<'_>, work: &[u32], places: &mut [u32], squared: &mut [f64])
-    requires { (All OnPlate path.now.points.now) × (length path.now.points.now ≤ 131072) × (Ready g.spatial path.now.points.now work.now path.now.count)
-        × (length path.now.points.now / 2 ≤ length places.old) × (length path.now.points.now / 2 ≤ length squared.old) }
-    ensures { let xs = path.now.points.now in let n = length xs / 2 in
-        (places.new ≡ written (λ v. place_number (ask g.spatial xs path.now.count v)) n places.old)
-        × (squared.new ≡ written (λ v. squared_number (ask g.spatial xs path.now.count v)) n squared.old) }
+fn query_all(
+    g: Grid,
+    points: &[f64],
+    path: &[f64],
+    work: &[u32],
+    places: &mut [u32],
+    squared: &mut [f64],
+)
+    requires on_plate { All OnPlate points.now }
+    requires small { (length points.now ≤ 131072) × (length path.now ≤ 131072) }
+    requires ready { Ready g.spatial path.now work.now (length path.now / 2) }
+    requires places_room { length points.now / 2 ≤ length places.old }
+    requires squared_room { length points.now / 2 ≤ length squared.old }
+    ensures { let answer = ask_path (at points.now) g.spatial (history.points path.now (length path.now / 2)) in
+        let n = length points.now / 2 in
+        (places.new ≡ written (λ v. place_number (answer v)) n places.old)
+        × (squared.new ≡ written (λ v. squared_number (answer v)) n squared.old) }
 {
-    let n = (path.points.len() / 2) as u32;
+    let n = (points.len() / 2) as u32;
     for v in 0..n {
-        let q = point_at(path.points, Vertex(v));
+        let q = point_at(points, Vertex(v));
         let answer = nearest::nearest(g, path, work, q);
         places[v as usize] = place_number(answer);
         squared[v as usize] = squared_number(answer);
@@ -223,9 +234,9 @@ pub extern "C" fn twillharbor_grid_nearest(
         return false;
     }
     let g = grid_for(points);
-    let path = PathSoFar { points, count };
-    insert_all(g, &path, &mut *work);
-    query_all(g, &path, &*work, places, squared);
+    let path = &points[..2 * count as usize];
+    insert_all(g, path, &mut *work);
+    query_all(g, points, path, &*work, places, squared);
     true
 }
 

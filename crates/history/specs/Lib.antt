@@ -1,3 +1,4 @@
 pub mod History
 pub mod Points
 pub mod Appending
+pub mod Cut

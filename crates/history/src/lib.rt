@@ -1,5 +1,6 @@
 // The history: the path points so far, each in the chain of its cell.
-// The chains lie in a lent slice: the heads of at most 2,916 cells, then a link for each path place. Both are 0, or one more than a place.
+// The chains lie in a lent slice: the heads of at most 2,916 cells, then a link for each path place. Both are 0, or one more than a place: a lent u32 holds no
+// `Option`.
 #![tactic(auto)]
 
 ghost use Rattle.std.specs.Prelude.{◌≡◌, ℕ, ◌+◌, ◌≤◌, ◌<◌, length};
@@ -9,20 +10,13 @@ ghost use Rattle.history.specs.History.{Chained, inserted};
 use grid::Grid;
 use rules::{PathPlace, Point};
 
-// The path so far: the first `count` points of `points`. The whole slice, since a part of it would have to be cut for each query.
-#[derive(Clone, Copy)]
-pub struct PathSoFar<'a> {
-    pub points: &'a [f64],
-    pub count: u32,
-}
-
 // Empties every chain.
 pub fn clear(work: &mut [u32])
     requires { 2916 ≤ length work.old }
     ensures { (length work.new ≡ length work.old)
         × ((cell : ℕ → ℕ) → Chained work.new cell 0) × (KeptFrom 2916 work.old work.new) }
 {
-    work[0..2916].fill(0);
+    layout::clear(&mut *work, 0, 2916);
 }
 
 // Puts a path place, at which p is, in front of its cell's chain.

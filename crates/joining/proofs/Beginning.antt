@@ -1,5 +1,5 @@
 -- The slices before the start: laid out, with no point on the path and all contours waiting; then the contour that leads waits no more. Assumes nothing.
-use mathlib.Core.Path.{◌≡◌, sym, subst}
+use mathlib.Core.Path.{◌≡◌, sym, subst, ◌∙◌}
 use mathlib.Core.List.{List, map}
 use Prim.Native.Nat.{ℕ, ◌+◌, ◌≤◌, ◌<◌}
 use native.Mathlib.Omega.{arith}
@@ -11,58 +11,50 @@ use Rattle.rules.specs.SamplesAndCache.{waiting}
 use Rattle.rules.specs.RetraceAndMarks.{waiting_number}
 use Rattle.rules.specs.declared.SpatialGrid.{SpatialGrid}
 use Rattle.path.specs.Lists.{All, all_map}
-use Rattle.layout.specs.Parts.{from, KeptBelow}
+use Rattle.layout.specs.Parts.{from}
 use Rattle.layout.specs.declared.Layout.{Layout}
 use Rattle.prepare.specs.Holds.{Holds}
 use Rattle.prepare.specs.Prepared.{Prepared}
-use Rattle.history.specs.History.{Ready, Chained}
-use Rattle.history.specs.Appending.{ready_none, ready_kept}
+use Rattle.history.specs.History.{Ready}
 use Rattle.caches.specs.Querying.{Querying}
 use Rattle.choosing.specs.Lining.{lined_prepared}
 use Rattle.joining.specs.Lines.{Lines}
-use Rattle.joining.proofs.Settling.{left_querying, left_lines}
+use Rattle.joining.proofs.Settling.{left_flag, left_querying, left_lines}
 
--- the slices as they were prepared; w is the work slice before that
-pub record Beginning (xs : List Float) (lengths : List ℕ) (g : SpatialGrid) (lay : Layout) (w w' : List ℕ) (ds : List Float) (number : ℕ) : Type 0 where
-  pub prepared : Prepared xs g lay ds w'
-  pub held : (p : Plate) → p.points ≡ xs → All (λ c. Holds xs g lay ds w' (waiting p g c)) (contours_from 0 0 lengths)
-  pub below : KeptBelow lay.flags w w'
-  pub waits : (j : ℕ) → j < lay.contours → from w' lay.waiting j ≡ get_or lengths j 0
+-- the slices as they were set up
+pub record Beginning (xs : List Float) (lengths : List ℕ) (g : SpatialGrid) (lay : Layout) (w : List ℕ) (ds : List Float) (number : ℕ) : Type 0 where
+  pub prepared : Prepared xs g lay ds w
+  pub held : (p : Plate) → p.points ≡ xs → All (λ c. Holds xs g lay ds w (waiting p g c)) (contours_from 0 0 lengths)
+  pub ready : (path : List Float) → Ready g path w 0
+  pub flags : (k : ℕ) → k < lay.cells → from w lay.flags k ≡ 0
+  pub waits : (j : ℕ) → j < lay.contours → from w lay.waiting j ≡ get_or lengths j 0
   pub many : lay.contours ≡ length lengths
   pub inside : number < lay.contours
-  pub none : (cell : ℕ → ℕ) → Chained w cell 0
   pub start : 2916 ≤ lay.flags
-  pub long : 2916 ≤ length w
-  pub same : length w' ≡ length w
 
-module _ (xs : List Float) (lengths : List ℕ) (g : SpatialGrid) (lay : Layout) (w w' : List ℕ) (ds : List Float) (number : ℕ)
-    (b : Beginning xs lengths g lay w w' ds number) where
-  querying : (path : List Float) → Querying xs g lay ds w' path 0
-  querying path =
-      record {
-        prepared = b.prepared;
-        ready = ready_kept g path w w' 0 lay.flags (ready_none g path w b.long b.none) b.below (omega (arith, b.start)) b.same;
-        apart = omega (arith, b.start);
-      }
+module _ (xs : List Float) (lengths : List ℕ) (g : SpatialGrid) (lay : Layout) (w : List ℕ) (ds : List Float) (number : ℕ)
+    (b : Beginning xs lengths g lay w ds number) where
+  querying : (path : List Float) → Querying xs g lay ds w path 0
+  querying path = record { prepared = b.prepared; ready = b.ready path; apart = omega (arith, b.start) }
 
-  all_lines : (p : Plate) → p.points ≡ xs → p.lengths ≡ lengths → Lines xs g lay ds w' (map (waiting p g) (contours p))
+  all_lines : (p : Plate) → p.points ≡ xs → p.lengths ≡ lengths → Lines xs g lay ds w (map (waiting p g) (contours p))
   unfolding contours
   all_lines p e f =
-      subst (λ (ns : List ℕ). Lines xs g lay ds w' (map (waiting p g) (contours_from 0 0 ns))) (sym f)
+      subst (λ (ns : List ℕ). Lines xs g lay ds w (map (waiting p g) (contours_from 0 0 ns))) (sym f)
       record {
-        lined = rw b.many (lined_prepared p g (from w' lay.waiting) lengths (λ j m. b.waits j (omega (arith, b.many))));
-        held = all_map (Holds xs g lay ds w') (waiting p g) (contours_from 0 0 lengths) (b.held p e);
+        lined = rw b.many (lined_prepared p g (from w lay.waiting) lengths (λ j m. b.waits j (omega (arith, b.many))));
+        held = all_map (Holds xs g lay ds w) (waiting p g) (contours_from 0 0 lengths) (b.held p e);
       }
 
   -- contour `number` waits no more
   abbrev left : List ℕ
-  left = set w' (lay.waiting + number) 0
+  left = set w (lay.waiting + number) 0
 
   pub begin_prepared : Prepared xs g lay ds left
-  begin_prepared = (left_querying xs g lay ds w' xs 0 number (querying xs) b.inside).prepared
+  begin_prepared = (left_querying xs g lay ds w xs 0 number (querying xs) b.inside).prepared
 
-  pub begin_ready : (path : List Float) → Ready g path left 0
-  begin_ready path = (left_querying xs g lay ds w' path 0 number (querying path) b.inside).ready
+  pub begin_flags : (k : ℕ) → k < lay.cells → from left lay.flags k ≡ 0
+  begin_flags k l = left_flag xs g lay ds w xs 0 number (querying xs) b.inside k l ∙ b.flags k l
 
   pub begin_lines : (p : Plate) → p.points ≡ xs → p.lengths ≡ lengths → Lines xs g lay ds left (without waiting_number number (map (waiting p g) (contours p)))
-  begin_lines p e f = left_lines xs g lay ds w' xs 0 number (querying xs) b.inside (map (waiting p g) (contours p)) (all_lines p e f)
+  begin_lines p e f = left_lines xs g lay ds w xs 0 number (querying xs) b.inside (map (waiting p g) (contours p)) (all_lines p e f)

@@ -22,7 +22,6 @@ use Rattle.layout.specs.Parts.{from, KeptBelow, KeptFrom}
 use Rattle.layout.specs.declared.Layout.{Layout}
 use Rattle.prepare.specs.Prepared.{Prepared}
 use Rattle.history.specs.History.{points}
-use Rattle.history.specs.Appending.{ready_kept}
 use Rattle.caches.specs.Querying.{Querying}
 use Rattle.start.specs.declared.Contour as code
 use Rattle.start.specs.Oriented.{contour_of}
@@ -31,7 +30,7 @@ use Rattle.path_points.specs.Pen.{Pen, Grows}
 use Rattle.joining.specs.Lines.{Lines}
 use Rattle.joining.specs.Joining.{Joining}
 use Rattle.joining.proofs.Entering.{points_written}
-use Rattle.joining.proofs.Keeping.{prepared_still, lines_still, flags_still}
+use Rattle.joining.proofs.Keeping.{prepared_still, lines_still, flags_still, pen_still}
 use Rattle.joining.proofs.Candidates.{Enters}
 use Rattle.joining.proofs.Extends.{waiting_after, entered_begins, join_some, join_begins}
 
@@ -128,24 +127,12 @@ module _ (p : Plate) (g : SpatialGrid) (lay : Layout) (room turn count : ℕ) (p
             (λ (z : Contour). Lines p.points g lay ds'' work'' (map (update p g (points path' k) (cells_around (vertex_at p z) g z.last)) (without waiting_number z.number ws)))
             e.contour (lines (drawn_lines k path' ms' work' pen kept same)))
 
-        pen_after : Pen g room k path' ms' work''
-        pen_after =
-            record {
-              sane = pen.sane;
-              small = pen.small;
-              most = pen.most;
-              path_room = pen.path_room;
-              marks_room = pen.marks_room;
-              work_room = omega (arith, pen.work_room);
-              ready = λ m. ready_kept g path' work' work'' k lay.flags (pen.ready m) below (omega (arith, j.apart)) same'';
-            }
-
         pub joining_next : Joining p g lay room (turn + 1) k path' ms' work'' ds'' after next was marked
         joining_next =
             let f = update p g (path_points p next) cells in
             record {
               prepared = prepared;
-              pen = pen_after;
+              pen = pen_still g room k path' ms' work' work'' lay.flags pen below j.apart same'';
               fits = fits;
               some = next_some;
               apart = j.apart;

@@ -1,19 +1,25 @@
 -- Nothing from the flags on is altered: the samples, the waiting contours and the flags are as they were. Assumes nothing.
 use mathlib.Core.Path.{◌≡◌, refl}
 use mathlib.Core.List.{List}
-use Prim.Native.Nat.{ℕ, ◌+◌, ◌<◌}
+use Prim.Native.Nat.{ℕ, ◌+◌, ◌*◌, ◌≤◌, ◌<◌}
+use Rattle.std.specs.Prelude.{◌/◌}
 use native.Mathlib.Omega.{arith}
 use lib.Ieee.{Float}
-use lib.ListN.{length}
+use lib.ListN.{length, take}
 use Rattle.rules.specs.SamplesAndCache.{Waiting}
 use Rattle.rules.specs.declared.SpatialGrid.{SpatialGrid}
 use Rattle.path.specs.Lists.{all_give}
 use Rattle.layout.specs.Laid.{Laid}
-use Rattle.layout.specs.Parts.{from, KeptFrom}
+use Rattle.layout.specs.Parts.{from, KeptBelow, KeptFrom}
 use Rattle.layout.specs.declared.Layout.{Layout}
 use Rattle.prepare.specs.Prepared.{Prepared, prepared_kept}
 use Rattle.prepare.specs.Staying.{holds_kept}
 use Rattle.choosing.specs.Lining.{lined_same}
+use Rattle.history.specs.Appending.{ready_kept}
+use Rattle.history.specs.Cut.{count_cut, ready_cut}
+use Rattle.caches.specs.Querying.{Querying}
+use Rattle.path_points.specs.Pen.{Pen}
+use Rattle.path_points.specs.declared.PathWriter.{PathWriter}
 use Rattle.joining.specs.Lines.{Lines}
 
 module _ (xs : List Float) (g : SpatialGrid) (lay : Layout) (ds : List Float) (work work' : List ℕ) (prepared : Prepared xs g lay ds work)
@@ -35,3 +41,29 @@ module _ (xs : List Float) (g : SpatialGrid) (lay : Layout) (ds : List Float) (w
 
   pub flags_still : (k : ℕ) → k < lay.cells → from work' lay.flags k ≡ from work lay.flags k
   flags_still k l = kept (lay.flags + k) (omega arith)
+
+-- what is altered behind the links leaves a path as it was written
+pub pen_still : (g : SpatialGrid) (room count : ℕ) (path : List Float) (ms work work' : List ℕ) (a : ℕ) → Pen g room count path ms work →
+    KeptBelow a work work' → 2916 + room ≤ a → length work' ≡ length work → Pen g room count path ms work'
+pen_still g room count path ms work work' a pen below l same =
+    record {
+      sane = pen.sane;
+      small = pen.small;
+      most = pen.most;
+      path_room = pen.path_room;
+      marks_room = pen.marks_room;
+      work_room = omega (arith, pen.work_room);
+      ready = λ m. ready_kept g path work work' count a (pen.ready m) below (omega arith) same;
+    }
+
+-- the path slice has room for the path's points
+pub long : (w : PathWriter) → w.count ≤ w.room → 2 * w.count ≤ length w.path.now
+long w l = omega (arith, l, w.pen.path_room)
+
+-- a query may ask by the slice of the path's points alone
+pub querying_cut : (xs : List Float) (g : SpatialGrid) (lay : Layout) (ds : List Float) (w : List ℕ) (path : List Float) (count : ℕ) →
+    2 * count ≤ length path → Querying xs g lay ds w path count →
+    Querying xs g lay ds w (take (2 * count) path) (length (take (2 * count) path) / 2)
+querying_cut xs g lay ds w path count h q =
+    rw (count_cut path count h)
+    (record { prepared = q.prepared; ready = ready_cut path count h g w count (omega arith) q.ready; apart = q.apart })

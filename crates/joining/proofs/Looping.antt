@@ -1,5 +1,5 @@
 -- The loop over the waiting contours: whichever plate's they are, what is left to join gives what was to be joined. Assumes nothing.
-use mathlib.Core.Path.{◌≡◌, refl, sym, ap, subst, ◌∙◌}
+use mathlib.Core.Path.{◌≡◌, sym, ap, subst, ◌∙◌}
 use mathlib.Core.List.{List, map}
 use mathlib.Core.Option.{some}
 use Prim.Native.Nat.{ℕ, ◌+◌, ◌≤◌, ◌<◌}
@@ -14,8 +14,6 @@ use Rattle.rules.specs.SamplesAndCache.{Waiting, update, cells_around}
 use Rattle.rules.specs.RetraceAndMarks.{Step, choose, waiting_number, entered, join_all}
 use Rattle.rules.specs.declared.SpatialGrid.{SpatialGrid}
 use Rattle.path.specs.Lists.{All}
-use Rattle.path.specs.FiniteDistances.{OnPlate}
-use Rattle.layout.specs.Laid.{Laid}
 use Rattle.layout.specs.Parts.{from, KeptBelow, KeptFrom}
 use Rattle.layout.specs.declared.Layout.{Layout}
 use Rattle.prepare.specs.Holds.{Holds}
@@ -28,7 +26,7 @@ use Rattle.choosing.specs.declared.Candidate.{Candidate}
 use Rattle.start.specs.Oriented.{contour_of}
 use Rattle.path_points.specs.Pen.{Pen, Grows}
 use Rattle.joining.specs.Lines.{Lines}
-use Rattle.joining.specs.Joining.{Joining, CanJoin, Joined}
+use Rattle.joining.specs.Joining.{Joining, Joined}
 use Rattle.joining.proofs.Candidates.{Enters, Within, within, some_waiting}
 use Rattle.joining.proofs.Joins.{drawn_querying, drawn_flags, join_next, full_wrote, joining_next}
 use Rattle.joining.proofs.Extends.{waiting_after, join_none}
@@ -51,33 +49,16 @@ pub record Looping (xs : List Float) (ls : List ℕ) (g : SpatialGrid) (lay : La
   pub left : (p : Plate) (ws : List Waiting) (steps : List Step) (was : List Float) (marked : List ℕ) → p.points ≡ xs → p.layers ≡ ls →
       Joining p g lay room 0 count path ms work ds ws steps was marked → Left p g lay room turn k path' ms' work' ds' ws steps was marked
 
-pub looping_start : (xs : List Float) (ls : List ℕ) (g : SpatialGrid) (lay : Layout) (room count : ℕ) (path : List Float) (ms work : List ℕ) (ds : List Float) →
-    CanJoin xs ls g lay room count path ms work ds → Looping xs ls g lay room count path ms work ds 0 count path ms work ds
-looping_start xs ls g lay room count path ms work ds can =
-    record {
-      can = can;
-      left = λ p ws steps was marked e y j. (ws, steps, j, refl);
-    }
-
 module _ (xs : List Float) (ls : List ℕ) (g : SpatialGrid) (lay : Layout) (room count : ℕ) (path : List Float) (ms work : List ℕ) (ds : List Float)
     (turn k : ℕ) (path' : List Float) (ms' work' : List ℕ) (ds' : List Float)
     (h : Looping xs ls g lay room count path ms work ds turn k path' ms' work' ds') where
   -- ---- what is known before a turn
-
-  pub loop_laid : Laid lay (length work')
-  loop_laid = let (p, ws, steps, was, marked, e, y, few, j) = h.can in j.prepared.plated.laid
-
-  pub loop_pen : Pen g room k path' ms' work'
-  loop_pen = let (p, ws, steps, was, marked, e, y, few, j) = h.can in j.pen
 
   pub loop_fits : k ≤ room
   loop_fits = let (p, ws, steps, was, marked, e, y, few, j) = h.can in j.fits
 
   pub loop_some : 1 ≤ k
   loop_some = let (p, ws, steps, was, marked, e, y, few, j) = h.can in j.some
-
-  pub loop_on_plate : All OnPlate xs
-  loop_on_plate = let (p, ws, steps, was, marked, e, y, few, j) = h.can in rw e at j.prepared.on_plate
 
   -- ---- a choice
 

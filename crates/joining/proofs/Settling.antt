@@ -16,7 +16,6 @@ use Rattle.layout.specs.Laid.{Laid}
 use Rattle.layout.specs.Parts.{from, KeptBelow, KeptFrom}
 use Rattle.layout.specs.declared.Layout.{Layout}
 use Rattle.prepare.specs.Holds.{Holds, Changed}
-use Rattle.prepare.specs.Prepared.{Prepared, prepared_kept}
 use Rattle.prepare.specs.Staying.{prepared_left, holds_left, changed_all}
 use Rattle.history.specs.Appending.{ready_kept}
 use Rattle.caches.specs.Querying.{Querying}
@@ -72,7 +71,3 @@ module _ (xs : List Float) (g : SpatialGrid) (lay : Layout) (ds : List Float) (w
               (λ i m. above (lay.waiting + i) (omega (arith, laid))) k.lined);
           held = changed_all xs g lay ds left ds' w' f changed p e (without waiting_number j ws) k.held;
         }
-
-    pub settled_prepared : length ds' ≡ length ds → length w' ≡ length left → Prepared xs g lay ds' w'
-    settled_prepared a b =
-        prepared_kept xs g lay left w' left_querying.prepared.plated.laid (λ i m n. above i m) ds ds' a b left_querying.prepared

@@ -26,9 +26,7 @@ use Rattle.layout.specs.declared.Layout.{Layout}
 use Rattle.prepare.specs.Holds.{Changed}
 use Rattle.prepare.specs.Prepared.{Prepared, prepared_kept}
 use Rattle.prepare.specs.Staying.{changed_all}
-use Rattle.grid.specs.Sane as grid
-use Rattle.history.specs.History.{points, Ready}
-use Rattle.history.specs.Appending.{ready_kept}
+use Rattle.history.specs.History.{points}
 use Rattle.caches.specs.Querying.{Querying}
 use Rattle.choosing.specs.Lining.{lined_same, lined_map, lined_few}
 use Rattle.path_points.specs.Wrote.{Wrote, wrote_full}
@@ -36,12 +34,11 @@ use Rattle.path_points.specs.Pen.{Pen}
 use Rattle.path_points.specs.Writing.{reached}
 use Rattle.path_points.specs.declared.Full.{Full}
 use Rattle.emission.specs.Drawn.{drawn, begin_is}
-use Rattle.joining.specs.Lent.{Lent}
 use Rattle.joining.specs.Lines.{Lines}
 use Rattle.joining.specs.Joining.{Joining}
 use Rattle.joining.proofs.Entering.{points_written}
 use Rattle.joining.proofs.Extends.{Begins, join_begins}
-use Rattle.joining.proofs.Keeping.{prepared_still, lines_still, flags_still}
+use Rattle.joining.proofs.Keeping.{prepared_still, lines_still, flags_still, pen_still}
 
 -- those that wait when s leads
 abbrev pub waiting_first : Plate → SpatialGrid → Oriented → List Waiting
@@ -126,19 +123,8 @@ module _ (xs : List Float) (p : Plate) (g : SpatialGrid) (lay : Layout) (room : 
               changed_all xs g lay ds work' ds'' work'' (λ q c. seed q g (points path count) c) changed p same_points (waiting_first p g s) h.held;
         }
 
-    seeded_pen : Pen g room count path ms work''
-    seeded_pen =
-        let pen = b.pen in
-        record {
-          sane = pen.sane;
-          small = pen.small;
-          most = pen.most;
-          path_room = pen.path_room;
-          marks_room = pen.marks_room;
-          work_room = omega (arith, pen.work_room);
-          ready = λ m.
-              ready_kept g path work' work'' count lay.entries (pen.ready m) below (omega (arith, still.plated.laid, b.start)) same'';
-        }
+    pub seeded_pen : Pen g room count path ms work''
+    seeded_pen = pen_still g room count path ms work' work'' lay.entries b.pen below (omega (arith, still.plated.laid, b.start)) same''
 
     seeded_contours : map joining.contour_of (seeded_first p g s) ≡ without contour_number s.contour.number (contours p)
     seeded_contours =
@@ -177,20 +163,6 @@ unfolding entry_of
 start_wrote xs s v room count was path marked ms e w =
     let d : v - s.contour.first ≡ pick s.reversed s.contour.last 0 = omega arith in
     rw (begin_is s) (rw d at w)
-
--- before the start
-pub start_pen : (g : SpatialGrid) (room : ℕ) (lengths : List ℕ) (path : List Float) (ms work : List ℕ) (ds : List Float) (work' : List ℕ) →
-    Lent room lengths path ms work ds → grid.Sane g → length work' ≡ length work → Ready g path work' 0 → Pen g room 0 path ms work'
-start_pen g room lengths path ms work ds work' l s e r =
-    record {
-      sane = s;
-      small = l.small;
-      most = omega arith;
-      path_room = l.path_room;
-      marks_room = l.marks_room;
-      work_room = omega (arith, l.work_room);
-      ready = λ m. r;
-    }
 
 pub reached_err : (room count : ℕ) (r : Result (Unit {0}) Full) → IsErr r → reached room count r ≡ room + 1
 reached_err room count (Ok _) e = absurd cc

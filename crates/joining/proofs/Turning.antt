@@ -11,11 +11,8 @@ use Rattle.rules.specs.Tools.{without}
 use Rattle.rules.specs.HandedOver.{Plate, vertex_at}
 use Rattle.rules.specs.SamplesAndCache.{Waiting, update, cells_around}
 use Rattle.rules.specs.RetraceAndMarks.{waiting_number, entered}
-use Rattle.path.specs.Lists.{All}
-use Rattle.path.specs.FiniteDistances.{OnPlate}
 use Rattle.start.specs.Oriented.{contour_of}
 use Rattle.grid.specs.declared.Grid.{Grid}
-use Rattle.layout.specs.Laid.{Laid}
 use Rattle.layout.specs.Parts.{from, KeptBelow, KeptFrom}
 use Rattle.samples.specs.declared.Frame.{Frame}
 use Rattle.prepare.specs.Prepared.{Prepared}
@@ -23,13 +20,13 @@ use Rattle.history.specs.History.{points}
 use Rattle.caches.specs.Querying.{Querying}
 use Rattle.choosing.specs.declared.Candidate.{Candidate}
 use Rattle.path_points.specs.Pen.{Pen, Grows}
-use Rattle.path_points.specs.Writing.{reached, CanWrite, SameWriter, Written, Adds}
+use Rattle.path_points.specs.Writing.{reached, SameWriter, Written, Adds}
 use Rattle.path_points.specs.declared.Full.{Full}
 use Rattle.path_points.specs.declared.PathWriter.{PathWriter}
 use Rattle.joining.specs.Lines.{Lines}
 use Rattle.joining.specs.Joining.{Joined}
 use Rattle.joining.proofs.Candidates.{Within}
-use Rattle.joining.proofs.Looping.{Looping, Chooses, loop_pen, loop_fits, loop_some, loop_on_plate, loop_ends, loop_within, loop_turn, loop_full, loop_querying, loop_flags, loop_next}
+use Rattle.joining.proofs.Looping.{Looping, Chooses, loop_fits, loop_some, loop_ends, loop_within, loop_turn, loop_full, loop_querying, loop_flags, loop_next}
 
 -- from the writer w, with the distances ds, so many turns have led to w' and ds'
 pub record Turning (f : Frame) (ls : List ℕ) (w : PathWriter) (ds : List Float) (turn : ℕ) (w' : PathWriter) (ds' : List Float) : Type 0 where
@@ -51,20 +48,14 @@ module _ (f : Frame) (ls : List ℕ) (w : PathWriter) (ds : List Float) (turn : 
   own_grid : w'.grid.spatial ≡ f.grid.spatial
   own_grid = ap (λ (z : Grid). z.spatial) h.same.0 ∙ h.grid
 
-  pub turn_choice : (Laid f.layout (length w'.work.now)) × (f.layout.contours ≤ length ds') × (f.layout.contours ≤ length ls)
-  turn_choice = let (p, ws, steps, was, marked, e, y, few, j) = h.looping.can in (j.prepared.plated.laid, j.prepared.room, few)
-
-  pub turn_writes : CanWrite w'
-  turn_writes = rw (own_grid, h.same.1) (loop_pen _ _ _ _ _ _ _ _ _ _ _ _ _ _ _ _ h.looping)
+  pub turn_apart : 2916 + w.room ≤ f.layout.flags
+  turn_apart = let (p, ws, steps, was, marked, e, y, few, j) = h.looping.can in j.apart
 
   pub turn_fits : w'.count ≤ w.room
   turn_fits = loop_fits _ _ _ _ _ _ _ _ _ _ _ _ _ _ _ _ h.looping
 
   pub turn_some : 1 ≤ w'.count
   turn_some = loop_some _ _ _ _ _ _ _ _ _ _ _ _ _ _ _ _ h.looping
-
-  pub turn_on_plate : All OnPlate f.points.now
-  turn_on_plate = loop_on_plate _ _ _ _ _ _ _ _ _ _ _ _ _ _ _ _ h.looping
 
   -- what the choice promises
   abbrev pub ChoosesNow : prelude.Option Candidate → Type 0
@@ -81,9 +72,6 @@ module _ (f : Frame) (ls : List ℕ) (w : PathWriter) (ds : List Float) (turn : 
 
     pub turn_left : turn < f.layout.contours
     turn_left = loop_turn _ _ _ _ _ _ _ _ _ _ _ _ _ _ _ _ h.looping r n
-
-    pub turn_small : turn < 4096
-    turn_small = omega (arith, turn_left, turn_choice.0.contours_small)
 
     -- the candidate has entered, or the path was full
     module _ (w'' : PathWriter) (s : Result (Unit {0}) Full) (same : SameWriter w' w'') (written : Written w' w'' s)

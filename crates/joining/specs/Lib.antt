@@ -1,3 +1,4 @@
 pub mod Lent
 pub mod Lines
+pub mod SetUp
 pub mod Joining

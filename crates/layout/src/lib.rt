@@ -5,8 +5,9 @@ ghost use Rattle.std.specs.Prelude.{◌≡◌, ◌+◌, ◌*◌, ◌≤◌, leng
 ghost use Rattle.layout.specs.Laid.{Laid};
 ghost use Rattle.layout.specs.Parts.{Cleared};
 
-// Where the parts behind the history's begin, and how many points, cells and contours there are. A part is an offset, and what belongs to a contour
-// lies in several, since one slice is lent and the library has no heap.
+// Where the parts behind the history's begin, and how many points, cells and contours there are. Offsets, and not eight `&mut` slices: a function that
+// alters one part reads others, so that a struct of slices would be taken apart and lent anew at each call, and each contract would have to say of every
+// slice that it stays. An offset is one number, and that all before it, or from it on, stays is one fact (`KeptBelow`, `KeptFrom`).
 // `flags` and `list` serve the listing of cells; `entries` are cached; `heads` and `next` chain the samples of each cell;
 // `owners` tells of each vertex whose sample it is; `waiting` is a contour's length while it waits, then 0; `firsts` is its first vertex.
 #[derive(Clone, Copy)]

@@ -28,11 +28,9 @@ struct Lent {
     distances: usize,
 }
 
+// A line with the call's numbers.
 fn show<R: Print>(rt: &R, name: &str, numbers: &[u32]) -> io::Result<()> {
-    print!(rt; "{name}:")?;
-    for number in numbers {
-        print!(rt; " {number}")?;
-    }
+    tell(rt, name, &[], numbers)?;
     println!(rt; "")
 }
 
@@ -64,15 +62,15 @@ fn straight<R: Print>(
     show(rt, name, &[r.number, r.place, r.points])
 }
 
-fn numbers_of(r: RetraceResult) -> [u64; 7] {
+fn numbers_of(r: RetraceResult) -> [u32; 7] {
     [
-        u64::from(r.number),
-        u64::from(r.place),
-        u64::from(r.points),
-        u64::from(r.cuts),
-        u64::from(r.back_steps),
-        u64::from(r.jumps),
-        u64::from(r.touches),
+        r.number,
+        r.place,
+        r.points,
+        r.cuts,
+        r.back_steps,
+        r.jumps,
+        r.touches,
     ]
 }
 
@@ -348,53 +346,42 @@ fn last_alone() -> [u32; 4096] {
     lengths
 }
 
+// Each case: the layers of the last two contours; the others are of layer 0.
 fn last_layers<R: Print + AllocGlobal>(rt: &R) -> io::Result<()> {
-    let lengths = last_alone();
-    let mut layers = [0u32; 4096];
-    layers[4095] = 15;
-    let points = [0.0f64; 2];
-    let p = Plate {
-        points: &points,
-        lengths: &lengths,
-        layers: &layers,
-    };
-    four_calls(rt, "layer 15 at 4095 of 4096", p)?;
-    layers[4095] = 16;
-    let p = Plate {
-        points: &points,
-        lengths: &lengths,
-        layers: &layers,
-    };
-    four_calls(rt, "layer 16 at 4095 of 4096", p)?;
-    layers[4094] = 16;
-    let p = Plate {
-        points: &points,
-        lengths: &lengths,
-        layers: &layers,
-    };
-    four_calls(rt, "layer 16 at 4094 and 4095", p)
+    for (name, one, last) in [
+        ("layer 15 at 4095 of 4096", 0, 15),
+        ("layer 16 at 4095 of 4096", 0, 16),
+        ("layer 16 at 4094 and 4095", 16, 16),
+    ] {
+        let mut layers = [0u32; 4096];
+        layers[4094] = one;
+        layers[4095] = last;
+        let p = Plate {
+            points: &[0.0; 2],
+            lengths: &last_alone(),
+            layers: &layers,
+        };
+        four_calls(rt, name, p)?;
+    }
+    Ok(())
 }
 
 // The place is the number of contours, even where the first layer is above 15.
 fn miscounted_layers<R: Print + AllocGlobal>(rt: &R) -> io::Result<()> {
-    let lengths = last_alone();
-    let points = [0.0f64; 2];
     let short = Plate {
-        points: &points,
-        lengths: &lengths,
+        points: &[0.0; 2],
+        lengths: &last_alone(),
         layers: &[0; 4095],
     };
     four_calls(rt, "4096 contours, 4095 layers", short)?;
     let long = Plate {
-        points: &points,
-        lengths: &lengths,
         layers: &[0; 4097],
+        ..short
     };
     four_calls(rt, "4096 contours, 4097 layers", long)?;
     let high = Plate {
-        points: &points,
-        lengths: &lengths,
         layers: &[16; 4095],
+        ..short
     };
     four_calls(rt, "4096 contours, 4095 layers of 16", high)
 }
@@ -408,9 +395,8 @@ fn layers_after_counts<R: Print + AllocGlobal>(rt: &R) -> io::Result<()> {
     };
     four_calls(rt, "4097 empty contours, 4096 layers of 16", short)?;
     let high = Plate {
-        points: &[],
-        lengths: &[0; 4097],
         layers: &[16; 4097],
+        ..short
     };
     four_calls(rt, "4097 empty contours of layer 16", high)?;
     let points = vec![in rt.alloc(); 0.0f64; 131074]?;
@@ -421,35 +407,37 @@ fn layers_after_counts<R: Print + AllocGlobal>(rt: &R) -> io::Result<()> {
     };
     four_calls(rt, "65537 points, no layer", none)?;
     let one = Plate {
-        points: points.as_slice(),
-        lengths: &[65537],
         layers: &[16],
+        ..none
     };
     four_calls(rt, "65537 points of layer 16", one)
 }
 
-// The four calls from a parked point, on a contour of one point, with slices that are enough for it: C = 1, with u32 work of 1 + 4 + 8 + 16,384.
-fn four_home_calls<R: Print>(
-    rt: &R,
-    name: &str,
-    points: &[f64],
+// A contour of one point, its layer, and a parked point.
+#[derive(Clone, Copy)]
+struct ParkedPlate {
+    point: [f64; 2],
     layer: u32,
     x: f64,
     y: f64,
-) -> io::Result<()> {
-    let lengths = [1u32; 1];
-    let layers = [layer];
-    let a = twillharbor_start_home(points, &lengths, &layers, x, y);
+}
+
+// The four calls from a parked point, with slices that are enough for one point: C = 1, with u32 work of 1 + 4 + 8 + 16,384.
+fn four_home_calls<R: Print>(rt: &R, name: &str, p: ParkedPlate) -> io::Result<()> {
+    let (points, x, y) = (p.point, p.x, p.y);
+    let lengths = [1u32];
+    let layers = [p.layer];
+    let a = twillharbor_start_home(&points, &lengths, &layers, x, y);
     print!(rt; "start home, ")?;
     show(rt, name, &[a.number, a.place])?;
-    let b = twillharbor_order_home(points, &lengths, &layers, x, y, &mut [0; 2], &mut [0; 1]);
+    let b = twillharbor_order_home(&points, &lengths, &layers, x, y, &mut [0; 2], &mut [0; 1]);
     print!(rt; "order home, ")?;
     show(rt, name, &[b.number, b.place, b.entries])?;
-    let c = twillharbor_straight_home(points, &lengths, &layers, x, y, &mut [0.0; 2], &mut [0; 1]);
+    let c = twillharbor_straight_home(&points, &lengths, &layers, x, y, &mut [0.0; 2], &mut [0; 1]);
     print!(rt; "straight home, ")?;
     show(rt, name, &[c.number, c.place, c.points])?;
     let d = twillharbor_retrace_home(
-        points,
+        &points,
         &lengths,
         &layers,
         x,
@@ -460,31 +448,51 @@ fn four_home_calls<R: Print>(
         &mut [0.0; 1],
     );
     print!(rt; "retrace home, ")?;
-    tell(rt, name, &[], &numbers_of(d))?;
-    println!(rt; "")
+    show(rt, name, &numbers_of(d))
 }
 
+// Each case: where the parked point is.
 fn parked<R: Print>(rt: &R) -> io::Result<()> {
-    let points = [0.0f64; 2];
-    let name = "1000000, -1000000";
-    four_home_calls(rt, name, &points, 0, 1000000.0, -1000000.0)?;
-    let name = "-1000000, 1000000";
-    four_home_calls(rt, name, &points, 0, -1000000.0, 1000000.0)?;
-    four_home_calls(rt, "next above 1000000 as x", &points, 0, ABOVE, 0.0)?;
-    four_home_calls(rt, "next below -1000000 as x", &points, 0, BELOW, 0.0)?;
-    four_home_calls(rt, "next above 1000000 as y", &points, 0, 0.0, ABOVE)?;
-    four_home_calls(rt, "next below -1000000 as y", &points, 0, 0.0, BELOW)
+    for (name, x, y) in [
+        ("1000000, -1000000", 1000000.0, -1000000.0),
+        ("-1000000, 1000000", -1000000.0, 1000000.0),
+        ("next above 1000000 as x", ABOVE, 0.0),
+        ("next below -1000000 as x", BELOW, 0.0),
+        ("next above 1000000 as y", 0.0, ABOVE),
+        ("next below -1000000 as y", 0.0, BELOW),
+    ] {
+        let p = ParkedPlate {
+            point: [0.0; 2],
+            layer: 0,
+            x,
+            y,
+        };
+        four_home_calls(rt, name, p)?;
+    }
+    Ok(())
 }
 
 // The parked point is tested after the layers and before the coordinates: in the second case the place tells which was refused.
 fn parked_between<R: Print>(rt: &R) -> io::Result<()> {
-    let points = [ABOVE, 0.0];
-    let name = "layer 16, all next above 1000000";
-    four_home_calls(rt, name, &points, 16, ABOVE, ABOVE)?;
+    let all = ParkedPlate {
+        point: [ABOVE, 0.0],
+        layer: 16,
+        x: ABOVE,
+        y: ABOVE,
+    };
+    four_home_calls(rt, "layer 16, all next above 1000000", all)?;
+    let both = ParkedPlate {
+        layer: 0,
+        x: 0.0,
+        ..all
+    };
     let name = "coordinate 0 and y next above 1000000";
-    four_home_calls(rt, name, &points, 0, 0.0, ABOVE)?;
-    let name = "coordinate 0 next above 1000000";
-    four_home_calls(rt, name, &points, 0, 0.0, 1000000.0)
+    four_home_calls(rt, name, both)?;
+    let contour = ParkedPlate {
+        y: 1000000.0,
+        ..both
+    };
+    four_home_calls(rt, "coordinate 0 next above 1000000", contour)
 }
 
 fn main(rt: HostRuntime) -> io::Result<()> {

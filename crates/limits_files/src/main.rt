@@ -23,8 +23,8 @@ fn write<R: Print>(rt: &R, name: &str, path: &[f64], room: usize) -> io::Result<
 {
     let mut file = [LENT_BYTE; MOST_BYTES];
     let r = twillharbor_write_file(path, &mut file[..room]);
-    let numbers = [u64::from(r.number), u64::from(r.place), u64::from(r.bytes)];
     let altered = file.iter().filter(|&&byte| byte != LENT_BYTE).count();
+    let numbers = [r.number, r.place, r.bytes];
     tell(rt, name, &[path.len(), room], &numbers)?;
     println!(rt; ", altered {altered}")
 }
@@ -35,8 +35,8 @@ fn read<R: Print>(rt: &R, name: &str, file: &[u8], room: usize) -> io::Result<()
 {
     let mut path = [LENT_PLACE; MOST_PLACES];
     let r = twillharbor_read_file(file, &mut path[..room]);
-    let numbers = [u64::from(r.number), u64::from(r.place), u64::from(r.points)];
     let altered = path.iter().filter(|&&place| place != LENT_PLACE).count();
+    let numbers = [r.number, r.place, r.points];
     tell(rt, name, &[room, file.len()], &numbers)?;
     println!(rt; ", altered {altered}")
 }
@@ -55,10 +55,10 @@ fn coordinates<R: Print>(rt: &R) -> io::Result<()> {
     line(rt, "write, next above 1000000 at 3", 0.0, ABOVE)?;
     line(rt, "write, next below -1000000 at 0", BELOW, 0.0)?;
     line(rt, "write, next below -1000000 at 3", 0.0, BELOW)?;
-    line(rt, "write, NaN at 0", 0.0 / 0.0, 0.0)?;
-    line(rt, "write, NaN at 3", 0.0, 0.0 / 0.0)?;
-    line(rt, "write, infinity at 0", 1.0 / 0.0, 0.0)?;
-    line(rt, "write, -infinity at 3", 0.0, -1.0 / 0.0)
+    line(rt, "write, NaN at 0", f64::NAN, 0.0)?;
+    line(rt, "write, NaN at 3", 0.0, f64::NAN)?;
+    line(rt, "write, infinity at 0", f64::INFINITY, 0.0)?;
+    line(rt, "write, -infinity at 3", 0.0, f64::NEG_INFINITY)
 }
 
 // Each case: how many coordinates of 1/2, and the length of the file slice.

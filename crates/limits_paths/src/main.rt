@@ -9,8 +9,6 @@ use rules::{BACK_STEP, CUT, JUMP, TOUCH};
 use std::io;
 use twillharbor::twillharbor_check_path;
 
-const NOT_A_NUMBER: f64 = 0.0 / 0.0;
-
 // A plate, and a path with its marks.
 #[derive(Clone, Copy)]
 struct Handed<'a> {
@@ -48,8 +46,8 @@ fn coordinates<R: Print + AllocGlobal>(rt: &R) -> io::Result<()> {
     line(rt, "next above 1000000 at 3", 0.0, ABOVE)?;
     line(rt, "next below -1000000 at 0", BELOW, 0.0)?;
     line(rt, "next below -1000000 at 3", 0.0, BELOW)?;
-    line(rt, "NaN at 0", NOT_A_NUMBER, 0.0)?;
-    line(rt, "NaN at 3", 0.0, NOT_A_NUMBER)
+    line(rt, "NaN at 0", f64::NAN, 0.0)?;
+    line(rt, "NaN at 3", 0.0, f64::NAN)
 }
 
 // The line from (1000000,0) to (0,1000000), and a path that may have other bits at 0 and at 3: these are of path points 0 and 1.
@@ -67,9 +65,9 @@ fn path_coordinates<R: Print + AllocGlobal>(rt: &R) -> io::Result<()> {
     line_path(rt, "path, 1000000 at 0 and 3", 1000000.0, 1000000.0)?;
     line_path(rt, "path, next above 1000000 at 0", ABOVE, 1000000.0)?;
     line_path(rt, "path, next above 1000000 at 3", 1000000.0, ABOVE)?;
-    line_path(rt, "path, NaN at 0", NOT_A_NUMBER, 1000000.0)?;
-    line_path(rt, "path, NaN at 3", 1000000.0, NOT_A_NUMBER)?;
-    line_path(rt, "path, NaN at 0 and 3", NOT_A_NUMBER, NOT_A_NUMBER)
+    line_path(rt, "path, NaN at 0", f64::NAN, 1000000.0)?;
+    line_path(rt, "path, NaN at 3", 1000000.0, f64::NAN)?;
+    line_path(rt, "path, NaN at 0 and 3", f64::NAN, f64::NAN)
 }
 
 // Two contours of a point, (0,0) and (-0,0): they touch, and their bits differ.
@@ -235,7 +233,7 @@ fn single_points<R: Print + AllocGlobal>(rt: &R) -> io::Result<()> {
     check_first(rt, name, h, 0, 8192)
 }
 
-// Sets the last mark. A kind is a number here: 5 is tried too.
+// Sets the last mark. Here, above and below a kind is a number, as C has it: 5 is tried too.
 fn set_last(marks: &mut [u32], kind: u32, reference: u32) {
     if let [.., k, r] = marks {
         *k = kind;

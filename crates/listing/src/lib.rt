@@ -18,6 +18,7 @@ use start::Contour;
 
 // Lists a cell unless it is listed: its flag is this turn's number then. The answer is how many are listed.
 // Slice, parts, turn and count stay parameters: a struct of them would add to each contract that the first three stay.
+#[tactic(auto, using(crate::proofs::Entry::list_found, crate::proofs::Entry::list_room))]
 fn list_cell(work: &mut [u32], lay: Layout, turn: u32, count: usize, cell: u32) -> usize
     requires { (Listing lay work.old turn count) × (cell < lay.cells) }
     ensures { Lists lay turn work.old count work.new result (λ cs. listed cs cell) }
@@ -33,6 +34,7 @@ fn list_cell(work: &mut [u32], lay: Layout, turn: u32, count: usize, cell: u32) 
 }
 
 // Lists the cells from one number up to another.
+#[tactic(auto, using(crate::proofs::Folding::folding_step))]
 fn list_row(work: &mut [u32], lay: Layout, turn: u32, count: usize, start: u32, end: u32) -> usize
     requires { (Listing lay work.old turn count) × (start ≤ end) × (end ≤ lay.cells) }
     ensures { Lists lay turn work.old count work.new result (λ cs. foldl listed cs (up_from start (end - start))) }
@@ -60,6 +62,7 @@ fn end_near(x: u32, cells: u32) -> u32
 }
 
 // Lists the cells within 1 of a cell, by rows, then columns.
+#[tactic(auto, using(crate::proofs::Folding::folding_step, crate::proofs::Folding::folding_done, crate::proofs::Around::row_lists, crate::proofs::Around::square_lists))]
 fn list_square(grid: Grid, work: &mut [u32], lay: Layout, turn: u32, count: usize, c: Cell) -> usize
     requires { (Listing lay work.old turn count) × (grid.spatial.cols * grid.spatial.rows ≡ lay.cells)
         × (c.col < grid.spatial.cols) × (c.row < grid.spatial.rows) }
@@ -88,6 +91,7 @@ fn vertex_of(c: Contour, i: u32) -> Vertex
 }
 
 // Lists the cells around a contour, its points in vertex order; no cell carries this turn's flag before.
+#[tactic(auto, using(crate::proofs::Folding::folding_step, crate::proofs::Folding::folding_done, crate::proofs::Around::around_lists, crate::proofs::Around::contour_lists))]
 pub fn list_cells(frame: &Frame<'_>, work: &mut [u32], turn: u32, c: Contour) -> usize
     requires { (PlatedBy frame.now work.old) × (c.first.0 + c.last < frame.now.layout.points)
         × ((k : ℕ) → k < frame.now.layout.cells → from work.old frame.now.layout.flags k < turn) }

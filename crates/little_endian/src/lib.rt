@@ -7,19 +7,19 @@ ghost use Rattle.path.specs.Lists.{All};
 ghost use Rattle.little_endian.specs.Bytes.{to_bytes, field, patterns, floats};
 ghost use Rattle.little_endian.specs.Numbers.{NoNan};
 
-// The lowest N bytes of x, from byte i on.
+// The lowest N bytes of x, from byte i on. (No `to_le_bytes`: it has eight bytes, and N may be more.)
 pub fn put<const N: usize>(bytes: &mut [u8], i: usize, x: u64)
     requires { i + N ≤ length bytes.old }
     ensures { bytes.new ≡ sets bytes.old i (to_bytes N x) }
 {
     let mut left = x;
-    for k in 0..N {
-        bytes[i + k] = (left % 256) as u8;
+    for byte in &mut bytes[i..i + N] {
+        *byte = (left % 256) as u8;
         left /= 256;
     }
 }
 
-// The number of the N bytes from byte i on.
+// The number of the N bytes from byte i on. (No `from_le_bytes`: two or four bytes would first be copied into an array of eight, which is no plainer.)
 pub fn read<const N: usize>(bytes: &[u8], i: usize) -> u64
     requires within { i + N ≤ length bytes.now }
     requires fits { N ≤ 8 }
@@ -27,8 +27,8 @@ pub fn read<const N: usize>(bytes: &[u8], i: usize) -> u64
     ensures small { result < 256 ^ N }
 {
     let mut x = 0;
-    for k in (0..N).rev() {
-        x = 256 * x + u64::from(bytes[i + k]);
+    for &b in bytes[i..i + N].iter().rev() {
+        x = 256 * x + u64::from(b);
     }
     x
 }

@@ -14,7 +14,7 @@ pub fn truncated(x: f64) -> u32
             let m = magnitude_of(x);
             return (m.significand >> (1074 - m.exponent)) as u32;
         }
-        return 4294967295;
+        return u32::MAX;
     }
     0
 }
@@ -24,10 +24,9 @@ pub fn ceiling(x: f64) -> u32
     ensures { result ≡ ceiling 32 x }
 {
     let whole = truncated(x);
-    if (whole as f64) < x {
-        if whole < 4294967295 {
-            return whole + 1;
-        }
+    if f64::from(whole) < x {
+        whole.saturating_add(1)
+    } else {
+        whole
     }
-    whole
 }

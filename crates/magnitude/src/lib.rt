@@ -46,7 +46,7 @@ pub fn normalized(m: Scaled) -> Scaled
             exponent: m.exponent + 56,
         };
     }
-    let zeros = m.significand.leading_zeros() as u64;
+    let zeros = u64::from(m.significand.leading_zeros());
     Scaled {
         significand: m.significand << (zeros - 3),
         exponent: m.exponent + 67 - zeros,

@@ -1,7 +1,7 @@
 // The path point that is nearest to a point, by rings of cells.
 #![tactic(auto)]
 
-ghost use Rattle.std.specs.Prelude.{◌≡◌, ◌+◌, ◌*◌, ◌<◌, length};
+ghost use Rattle.std.specs.Prelude.{◌≡◌, ◌/◌, length};
 ghost use Rattle.rules.specs.GridAndNearest as rules-nearest;
 ghost use Rattle.rules.specs.declared.SpatialGrid.{SpatialGrid};
 ghost use Rattle.path.specs.FiniteDistances.{OnPlate};
@@ -9,7 +9,6 @@ ghost use Rattle.path.specs.Nearest.{seen};
 ghost use Rattle.history.specs.History.{points, Ready};
 
 use grid::{Cell, Grid};
-use history::PathSoFar;
 use point::bound::is_beyond;
 use point::distance_squared;
 use rings::{column_step, is_past_best, square_of};
@@ -37,11 +36,11 @@ fn nearer(best: Nearest, place: PathPlace, q: Point, p: Point) -> Nearest
     best
 }
 
-// The path place that is nearest to q, of the first `count`, by rings of cells around q's cell.
+// The path place that is nearest to q, by rings of cells around q's cell. `path` is cut behind the path's last point.
 // Of a ring's inner rows only the first and the last cell are on its border.
-pub fn nearest(g: Grid, path: &PathSoFar<'_>, work: &[u32], q: Point) -> Nearest
-    requires { (Ready g.spatial path.now.points.now work.now path.now.count) × (OnPlate q.x × OnPlate q.y) }
-    ensures { result ≡ rules-nearest.nearest g.spatial (points path.now.points.now path.now.count) q }
+pub fn nearest(g: Grid, path: &[f64], work: &[u32], q: Point) -> Nearest
+    requires { (Ready g.spatial path.now work.now (length path.now / 2)) × (OnPlate q.x × OnPlate q.y) }
+    ensures { result ≡ rules-nearest.nearest g.spatial (points path.now (length path.now / 2)) q }
 {
     let mut best = Nearest::Nothing;
     let c = g.cell_of(q);
@@ -53,15 +52,15 @@ pub fn nearest(g: Grid, path: &PathSoFar<'_>, work: &[u32], q: Point) -> Nearest
         let s = square_of(g, c, ring);
         for row in s.first_row..=s.last_row {
             let step = column_step(s, row);
-            // A `while`: `step_by` of `a..b` takes twice its time here; that of `a..=b` takes no more, and is not proved yet.
+            // A `while`: `step_by` of `a..=b` proves, and a plate of 200 contours of 50 points then takes 24 % more instructions.
             let mut col = s.first_col;
             while col <= s.last_col {
                 let cell = g.cell_number(Cell { col, row });
-                // A chain's links lie in the lent slice: there is no list to iterate over.
+                // A chain's links lie in the lent slice of u32, for the library has no heap: it is walked by hand, and 0 ends it.
                 let mut cursor = work[cell as usize];
                 while cursor != 0 {
                     let place = PathPlace(cursor - 1);
-                    best = nearer(best, place, q, path_point(path.points, place));
+                    best = nearer(best, place, q, path_point(path, place));
                     cursor = work[2916 + place.0 as usize];
                 }
                 col += step;

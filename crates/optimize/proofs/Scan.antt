@@ -2,10 +2,10 @@
 use mathlib.Core.Path.{◌≡◌, refl, sym, ap, ◌∙◌}
 use mathlib.Core.List.{List, map}
 use mathlib.Core.Option.{Option}
-use Prim.Native.Nat.{ℕ, suc, ◌+◌, ◌<◌, ◌≤◌}
+use Prim.Native.Nat.{ℕ, suc, ◌+◌, ◌<◌}
 use native.Mathlib.Numerals.{add-one}
 use native.Mathlib.Omega.{arith}
-use lib.ListN.{length, get_or, drop, drop_of_length-le, length-map}
+use lib.ListN.{length, get_or, drop, length-map}
 use Rattle.std.proofs.lemmas.List.{get_or-map}
 use lib.Seq.{drop-cons}
 use Rattle.rules.specs.Tools.{foldl}
@@ -72,6 +72,3 @@ scan_step p q b c cs i h e =
     ap (λ (xs : List Contour). scanned p q b xs) (drop-cons cs i blank h)
     ∙ ap (λ (x : Option Oriented). scanned p q x (drop (suc i) cs)) (sym e)
     ∙ ap (λ (k : ℕ). scanned p q c (drop k cs)) (sym (add-one i))
-
-pub scan_end : (p : Plate) (q : Point) (b : Option Oriented) (cs : List Contour) (i : ℕ) → length cs ≤ i → scanned p q b (drop i cs) ≡ b
-scan_end p q b cs i h = ap (λ (xs : List Contour). scanned p q b xs) (drop_of_length-le cs h)

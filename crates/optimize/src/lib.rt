@@ -14,40 +14,19 @@ ghost use Rattle.optimize.specs.State.{State, Continued, Whole};
 mod nearest;
 
 use crate::nearest::nearest_waiting;
-use packed_contours::{NUMBER_UNIT, SENSE_UNIT, list_contours, move_down, place_of};
+use packed_contours::{Packed, list_contours, move_down, place_of};
 use plate::checked_input::CheckedInput;
-use rules::{Point, Vertex, point_at};
-use start::{Contour, Oriented, choose_start_contour};
+use rules::{Point, point_at};
+use start::{Oriented, choose_start_contour, first_end};
 
 // Where a contour in its sense ends.
+#[tactic(auto, using(crate::proofs::Ends::end_within, crate::proofs::Ends::other_end), unfolding(rules::specs::OrderAndStraight::last_end, rules::specs::HandedOver::vertex_at, start::specs::Oriented::oriented_of, start::specs::Oriented::contour_of))]
 fn last_end(points: &[f64], s: Oriented) -> Point
     requires small { s.contour.first.0 + s.contour.last < 65536 }
     requires held { 2 * (s.contour.first.0 + s.contour.last) + 1 < length points.now }
     ensures { (p : Plate) → p.points ≡ points.now → result ≡ last_end p (oriented_of s) }
 {
-    let first = s.contour.first.0;
-    if s.reversed {
-        return point_at(points, Vertex(first));
-    }
-    point_at(points, Vertex(first + s.contour.last))
-}
-
-fn packed_word(c: Contour) -> u32
-    requires { (c.number < 4096) × (c.first.0 < 65536) }
-    ensures { result ≡ packed (contour_of c) }
-{
-    c.number * NUMBER_UNIT + c.first.0
-}
-
-fn packed_sense(s: Oriented) -> u32
-    requires { (s.contour.number < 4096) × (s.contour.first.0 < 65536) }
-    ensures { result ≡ packed_sense (oriented_of s) }
-{
-    let word = packed_word(s.contour);
-    if s.reversed {
-        return word + SENSE_UNIT;
-    }
-    word
+    point_at(points, first_end(s.contour, !s.reversed))
 }
 
 // Puts the contour that the path starts with first.
@@ -57,8 +36,8 @@ fn put_first(work: &mut [u32], s: Oriented)
         State p work.new (length work.old) 1 (oriented_of s) }
 {
     let w = &*work;
-    if let Some(k) = place_of(w, packed_word(s.contour)) {
-        move_down(work, 0, k, packed_sense(s));
+    if let Some(k) = place_of(w, Packed::of(s.contour, false).into()) {
+        move_down(work, 0, k, Packed::of(s.contour, s.reversed).into());
     }
 }
 
@@ -75,9 +54,10 @@ fn put_next(
     let q = last_end(checked.input.points, last);
     let w = &*work;
     let choice = nearest_waiting(checked, &w[done..], q)?;
-    let word = packed_sense(choice.oriented);
-    move_down(work, done, done + choice.place, word);
-    Some(choice.oriented)
+    let next = choice.oriented;
+    let packed = Packed::of(next.contour, next.reversed);
+    move_down(work, done, done + choice.place, packed.into());
+    Some(next)
 }
 
 // Puts the contours that are listed in order, and answers how many take part.

@@ -14,8 +14,8 @@ ghost use Rattle.optimize.specs.Choice.{choice_of, lowest_of, Stands};
 use packed_contours::contour_at;
 use plate::checked_input::CheckedInput;
 use point::bound::is_beyond;
-use rules::{HIGHEST_LAYER, Point, Vertex, point_at};
-use start::{Contour, Oriented, orient};
+use rules::{HIGHEST_LAYER, Point, point_at};
+use start::{Contour, Oriented, first_end, orient};
 
 // What the scan has chosen: a place among the waiting contours and the contour there, in its nearer sense.
 #[derive(Clone, Copy)]
@@ -58,12 +58,12 @@ impl Waiting<'_> {
             return false;
         };
         let least = chosen.oriented.squared;
-        let first = self.contour.first.0;
-        if !is_beyond(self.from, point_at(self.points, Vertex(first)), least) {
-            return false;
-        }
-        let last = Vertex(first + self.contour.last);
-        is_beyond(self.from, point_at(self.points, last), least)
+        is_beyond(self.from, point_at(self.points, self.contour.first), least)
+            && is_beyond(
+                self.from,
+                point_at(self.points, first_end(self.contour, true)),
+                least,
+            )
     }
 
     // Whether the choice surely stays as it is after this contour: it is of a higher layer, or of the choice's and passed over. `lowest` is the choice's
@@ -73,17 +73,12 @@ impl Waiting<'_> {
             choice_of best ≡ leads_in (layer_of p) nearer_end (choice_of best) (nearer_sense p self.now.from (contour_of self.now.contour)) }
         ensures low { result ≡ false → self.now.layer ≤ lowest }
     {
-        if lowest < self.layer {
-            return true;
-        }
-        if self.layer < lowest {
-            return false;
-        }
-        self.is_passed_over(best)
+        lowest < self.layer || (lowest == self.layer && self.is_passed_over(best))
     }
 }
 
 // The choice after one more contour.
+#[tactic(auto, using(crate::proofs::Choices::later), unfolding(rules::specs::Tools::leads, rules::specs::Tools::pick, rules::specs::OrderAndStraight::nearer_end, start::specs::Oriented::oriented_of, crate::specs::Choice::choice_of, crate::specs::Choice::Stands))]
 fn nearer(best: Option<Choice>, place: usize, oriented: Oriented) -> Option<Choice>
     ensures leads { choice_of result ≡ leads nearer_end (choice_of best) (oriented_of oriented) }
     ensures stands { (words : List ℕ) → Stands words place best → place < length words → get_or words place 0 ≡ packed (contour_of oriented.contour) → Stands words (place + 1) result }
@@ -97,7 +92,9 @@ fn nearer(best: Option<Choice>, place: usize, oriented: Oriented) -> Option<Choi
     best
 }
 
-// The choice after a contour: one of a lower layer than the choice's takes its place, one of a higher layer waits.
+// The choice after a contour: one of a lower layer than the choice's takes its place, one of a higher layer waits. Who leads by layers is no generic
+// function with `start`'s and `choosing`'s: each keeps another kind of lead. `start` keeps ends, compared by the strategy; `choosing` a number, compared by
+// the cached distances; here it is a place, behind `is_passed_over`, which passes over most contours without an exact sum.
 fn choice_after(best: Option<Choice>, place: usize, c: &Waiting<'_>, lowest: u32) -> Option<Choice>
     ensures leads { (p : Plate) → p.points ≡ c.now.points.now → lowest ≡ lowest_of p (choice_of best) → c.now.layer ≡ layer_at p (contour_of c.now.contour) →
         choice_of result ≡ leads_in (layer_of p) nearer_end (choice_of best) (nearer_sense p c.now.from (contour_of c.now.contour)) }

@@ -15,12 +15,13 @@ use Rattle.path.specs.Ordering.{order_few}
 use Rattle.slices.specs.Over.{take_min}
 use Rattle.slices.specs.Pairs.{pairs, pairs_take}
 use Rattle.packed_contours.specs.Packed.{packed_sense, number_in}
-use Rattle.packed_contours.specs.Unpacked.{sense_in, Unpacked, order_unpacked, words_there}
+use Rattle.packed_contours.specs.Unpacked.{sense_is, Unpacked, order_unpacked, words_there}
+use Rattle.order.specs.Senses.{told_sense}
 
-entries_packed : (ns : List ℕ) (ss : List Oriented) → All (Unpacked ns) ss → pairs number_in sense_in (map packed_sense ss) ≡ entries ss
+entries_packed : (ns : List ℕ) (ss : List Oriented) → All (Unpacked ns) ss → pairs number_in told_sense (map packed_sense ss) ≡ entries ss
 unfolding pairs entries
 entries_packed ns [] a = refl
-entries_packed ns (s ∷ ss) a = rw (a.0.number, a.0.sense, entries_packed ns ss a.1)
+entries_packed ns (s ∷ ss) a = rw (a.0.number, a.0.sense, sense_is s.reversed, entries_packed ns ss a.1)
 
 pub entries_length : (ss : List Oriented) → length (entries ss) ≡ 2 * length ss
 unfolding entries
@@ -39,11 +40,11 @@ module _ {p : Plate} {count : ℕ} {work : List ℕ} (o : Ordered p count work) 
   count_few = (omega (arith, order_few p (layered_part p o.layered), o.counted, o.accepted.contours), words_there count work (order p) o.counted o.words)
 
   -- the entries of as many words as have room
-  pub entries_first : (n room : ℕ) → n ≡ min count room → pairs number_in sense_in (take n work) ≡ take (2 * room) (entries (order p))
+  pub entries_first : (n room : ℕ) → n ≡ min count room → pairs number_in told_sense (take n work) ≡ take (2 * room) (entries (order p))
   entries_first n room e =
       let h : n ≤ count = omega arith in
       let ws = map packed_sense (order p) in
       let f : n ≡ min (length ws) room = omega (arith, length-map (order p) packed_sense, o.counted) in
-      ap (pairs number_in sense_in) (sym (take-take n count work h) ∙ ap (take n) o.words ∙ ap (λ (k : ℕ). take k ws) f ∙ take_min room ws)
-      ∙ sym (pairs_take number_in sense_in room ws)
+      ap (pairs number_in told_sense) (sym (take-take n count work h) ∙ ap (take n) o.words ∙ ap (λ (k : ℕ). take k ws) f ∙ take_min room ws)
+      ∙ sym (pairs_take number_in told_sense room ws)
       ∙ ap (take (2 * room)) (entries_packed p.lengths (order p) (order_unpacked p o.accepted))

@@ -6,21 +6,23 @@ ghost use Rattle.rules.specs.HandedOver.{plate_of, over, answer_of, WorkKept};
 ghost use Rattle.rules.specs.Calls.{order_call};
 ghost use Rattle.slices.specs.Pairs.{pairs};
 ghost use Rattle.packed_contours.specs.Packed.{number_in};
-ghost use Rattle.packed_contours.specs.Unpacked.{sense_in};
+ghost use Rattle.order.specs.Senses.{told_sense};
 
 use optimize::optimize_path_order;
-use packed_contours::{NUMBER_UNIT, SENSE_UNIT};
+use packed_contours::Packed;
 use plate::check;
 use rules::{Input, Refusal};
 
-// Writes an entry for each packed contour: its number, then 1 if it is reversed, else 0.
+// Writes an entry for each packed contour: its number, then 1 if it is reversed, else 0. By index: of what `chunks_exact_mut` lends a proof knows
+// how long it is afterwards, and not its numbers.
 fn write_entries(words: &[u32], order: &mut [u32])
     requires { 2 * length words.now ≤ length order.old }
-    ensures { order.new ≡ over (pairs number_in sense_in words.now) order.old }
+    ensures { order.new ≡ over (pairs number_in told_sense words.now) order.old }
 {
     for (i, &word) in words.iter().enumerate() {
-        order[2 * i] = word % SENSE_UNIT / NUMBER_UNIT;
-        order[2 * i + 1] = word / SENSE_UNIT;
+        let packed = Packed::from(word);
+        order[2 * i] = packed.number;
+        order[2 * i + 1] = u32::from(packed.reversed);
     }
 }
 

@@ -6,20 +6,19 @@ ghost use Prim.Native.Nat.{◌+◌, ◌*◌, ◌^◌, ◌≤◌, ◌<◌, compar
 ghost use Rattle.std.specs.Float.Ieee.{nearest};
 ghost use Rattle.std.specs.Float.Ieee.Nearest.{closest};
 ghost use Rattle.rounding.specs.StickyBit.{sticky_bit};
-ghost use Rattle.rounding.specs.Pack.{UlpExponent, rounded_from};
+ghost use Rattle.rounding.specs.Pack.{UlpExponent, digits, rounded_from};
 
+use std::cmp::Ordering;
 use wide::{Wide, sticky_bit};
 
 fn nearest_even(m: u64, twice: u64, unit: u64) -> u64
     requires { m < 2 ^ 63 }
     ensures { result ≡ nearest m (compare twice unit) }
 {
-    if twice < unit {
-        m
-    } else if twice == unit {
-        m + m % 2
-    } else {
-        m + 1
+    match twice.cmp(&unit) {
+        Ordering::Less => m,
+        Ordering::Equal => m + m % 2,
+        Ordering::Greater => m + 1,
     }
 }
 
@@ -33,16 +32,13 @@ fn rounded_shift(q: u64, sticky: u64, cut: u64) -> u64
     nearest_even(m, 2 * rest + sticky, 1u64 << cut)
 }
 
-// The exponent of the result's ulp, in units of the smallest number: e counts from 2^-2276, which is 1202 places lower, and 53 digits are kept.
-fn ulp_exponent(digits: u64, e: u64) -> u64
-    requires { (digits ≤ 64) × (e ≤ 5000) }
-    ensures { UlpExponent digits e result }
+// The exponent of the ulp of q × 2^e's result, in units of the smallest number: e counts from 2^-2276, which is 1202 places lower, and 53 digits are kept.
+fn ulp_exponent(q: u64, e: u64) -> u64
+    requires { e ≤ 5000 }
+    ensures { UlpExponent (digits q) e result }
 {
-    if digits + e > 1255 {
-        digits + e - 1255
-    } else {
-        0
-    }
+    let digits = 64 - u64::from(q.leading_zeros());
+    (digits + e).saturating_sub(1255)
 }
 
 // (q + sticky / 2) × 2^e, in units of 2^-2276, rounded once.
@@ -50,14 +46,13 @@ pub fn round_pack(q: u64, sticky: u64, e: u64) -> f64
     requires { (2 ^ 53 ≤ q) × (q < 2 ^ 63) × (sticky ≤ 1) × (e ≤ 5000) }
     ensures { result ≡ rounded_from q sticky e }
 {
-    let digits = 64 - q.leading_zeros() as u64;
-    let k = ulp_exponent(digits, e);
+    let k = ulp_exponent(q, e);
     let cut = k + 1202 - e;
     if cut > 63 {
         return 0.0;
     }
     if k > 2045 {
-        return f64::from_bits(9218868437227405312);
+        return f64::INFINITY;
     }
     f64::from_bits(k * 4503599627370496 + rounded_shift(q, sticky, cut))
 }

@@ -1,6 +1,6 @@
 -- What is read off a packed contour in its sense is the contour; so of all that an order has. Assumes nothing.
-use Rattle.std.specs.Prelude.{◌≡◌, Bool, true, false, List, map, ℕ, ◌+◌, ◌*◌, ◌/◌, ◌≤◌, ◌<◌, length, take}
-use Rattle.std.proofs.Common.{ap, arith, length-take}
+use Rattle.std.specs.Prelude.{◌≡◌, Bool, true, false, List, map, ℕ, ◌+◌, ◌*◌, ◌/◌, ◌≤◌, ◌<◌, eqb, length, take}
+use Rattle.std.proofs.Common.{refl, ap, arith, length-take}
 use Rattle.std.proofs.lemmas.List.{length-map}
 use Rattle.rules.specs.Tools.{pick}
 use Rattle.rules.specs.HandedOver.{Plate}
@@ -15,6 +15,15 @@ use Rattle.packed_contours.specs.Contours.{all_placed}
 -- 1 if it is reversed, else 0
 abbrev pub sense_in : ℕ → ℕ
 sense_in word = word / 268435456
+
+-- whether it is
+abbrev pub reversed_in : ℕ → Bool
+reversed_in word = eqb (sense_in word) 1
+
+pub sense_is : (b : Bool) → eqb (pick b 1 0) 1 ≡ b
+unfolding pick
+sense_is true = refl
+sense_is false = refl
 
 pub record Unpacked (ns : List ℕ) (s : Oriented) : Type 0 where
   pub placed : Placed ns s.contour

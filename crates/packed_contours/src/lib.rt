@@ -2,28 +2,76 @@
 #![tactic(auto)]
 
 ghost use Rattle.std.specs.Prelude.{◌≡◌, map, ◌++◌, ◌∷◌, ℕ, ◌+◌, ◌-◌, ◌*◌, ◌≤◌, ◌<◌, length, get_or, take, drop, IfSome, IsNone};
-ghost use Rattle.rules.specs.Tools.{sum};
+ghost use Rattle.rules.specs.Tools.{pick, sum};
 ghost use Rattle.rules.specs.HandedOver.{contours_from, over};
 ghost use Rattle.packed_contours.specs.Packed.{packed, number_in, first_in};
+ghost use Rattle.packed_contours.specs.Unpacked.{reversed_in};
 
 use rules::Vertex;
 use start::Contour;
+use start::contours::Contours;
 
-// The fields of a packed number: the first vertex, and what the contour's number and whether it is reversed are counted in.
-pub const NUMBER_UNIT: u32 = 65536;
+// What the number of a contour, and whether it is reversed, count in a word.
+const NUMBER_UNIT: u32 = 65536;
 
-pub const SENSE_UNIT: u32 = 268435456;
+const SENSE_UNIT: u32 = 268435456;
+
+// What a word of the work slice says of a contour: its first vertex, its number, and whether it is reversed.
+#[derive(Clone, Copy)]
+pub struct Packed {
+    pub first: Vertex,
+    pub number: u32,
+    pub reversed: bool,
+    ghost small: { first.0 < 65536 },
+    ghost few: { number < 4096 },
+}
+
+impl Packed {
+    // A contour in a sense.
+    pub fn of(c: Contour, reversed: bool) -> Packed
+        requires { (c.number < 4096) × (c.first.0 < 65536) }
+        ensures { (result.number ≡ c.number) × (result.first.0 ≡ c.first.0) × (result.reversed ≡ reversed) }
+    {
+        Packed {
+            first: c.first,
+            number: c.number,
+            reversed,
+        }
+    }
+}
+
+impl From<u32> for Packed {
+    ghost from_gives = { λ word p. (p.number ≡ number_in word) × (p.first.0 ≡ first_in word) × (p.reversed ≡ reversed_in word) };
+
+    fn from(word: u32) -> Packed {
+        Packed {
+            first: Vertex(word % NUMBER_UNIT),
+            number: word % SENSE_UNIT / NUMBER_UNIT,
+            reversed: word / SENSE_UNIT == 1,
+        }
+    }
+}
+
+impl From<Packed> for u32 {
+    ghost from_gives = { λ p word. word ≡ p.number * 65536 + p.first.0 + pick p.reversed 268435456 0 };
+
+    #[tactic(auto, unfolding(rules::specs::Tools::pick))]
+    fn from(p: Packed) -> u32 {
+        let sense = if p.reversed { SENSE_UNIT } else { 0 };
+        p.number * NUMBER_UNIT + p.first.0 + sense
+    }
+}
 
 // The contour of a packed number.
 pub fn contour_at(lengths: &[u32], word: u32) -> Contour
     requires { (number_in word < length lengths.now) × (0 < get_or lengths.now (number_in word) 0) }
     ensures { (result.number ≡ number_in word) × (result.first.0 ≡ first_in word) × (result.last + 1 ≡ get_or lengths.now (number_in word) 0) }
 {
-    let number = word % SENSE_UNIT / NUMBER_UNIT;
-    let size = lengths[number as usize];
+    let packed = Packed::from(word);
+    let size = lengths[packed.number as usize];
     Contour {
-        number,
-        first: Vertex(word % NUMBER_UNIT),
+        number: packed.number,
+        first: packed.first,
         last: size - 1,
     }
 }
@@ -43,14 +91,11 @@ pub fn list_contours(lengths: &[u32], work: &mut [u32]) -> usize
         × (result ≡ length (contours_from 0 0 lengths.now))
         × (work.new ≡ over (map packed (contours_from 0 0 lengths.now)) work.old) }
 {
+    // It is the answer too, and so no `enumerate`.
     let mut n: usize = 0;
-    let mut first: u32 = 0;
-    for (i, &size) in lengths.iter().enumerate() {
-        if size != 0 {
-            work[n] = (i as u32) * NUMBER_UNIT + first;
-            n += 1;
-        }
-        first += size;
+    for c in Contours::of(lengths) {
+        work[n] = Packed::of(c, false).into();
+        n += 1;
     }
     n
 }

@@ -1,6 +1,6 @@
 -- What the work slice says after the last path point. Assumes nothing.
-use Rattle.std.specs.Prelude.{◌≡◌, refl, ◌⊎◌, true, false, ◌&&◌, List, [], ℕ, zero, suc, ◌+◌, ◌*◌, ◌/◌, ◌%◌, ◌≤◌, ◌<◌, length, get_or}
-use Rattle.std.proofs.Common.{subst, inl, inr, arith, eqb→eq}
+use Rattle.std.specs.Prelude.{◌≡◌, refl, ◌⊎◌, Bool, true, false, ◌&&◌, List, [], ℕ, zero, suc, ◌+◌, ◌*◌, ◌/◌, ◌%◌, ◌≤◌, ◌<◌, length, get_or, T, IsTrue, ◌↔◌}
+use Rattle.std.proofs.Common.{sym, subst, inl, inr, arith, eqb→eq}
 use Rattle.std.proofs.Math.Decide.{ℕ_discrete}
 use Rattle.std.proofs.Math.Dec.{not_T, eqb}
 use Rattle.std.specs.Float.Ieee.Bits.{is_true, is_false}
@@ -15,11 +15,17 @@ use Rattle.division.specs.Says.{Says, SomeOf, says_eqb}
 use Rattle.division.specs.MarkCounts.{count_all}
 use Rattle.division.specs.Rules.{says_complete}
 use Rattle.path_rules.specs.Tallied.{Tallied}
-use Rattle.path_rules.specs.Words.{contour_word, word_of}
+use Rattle.path_rules.specs.Parts.{TalliedBy}
+use Rattle.path_rules.specs.declared.work.Words.{Words}
+use Rattle.path_rules.specs.Words.{contour_word, word_of, Open}
 
 -- vertex v is of a contour that is not entered, or segment v is one of a contour and is not cut
 abbrev pub LeftOutAt : List Contour → List ℕ → ℕ → Type 0
 LeftOutAt cs ms v = SomeOf (λ c. Of c v × ((entries_of c ms ≡ 0) ⊎ ((v < c.first + c.last) × (cuts_of v ms ≡ 0)))) cs
+
+-- by the words after all path points, b says whether v is left out
+pub record TellsLeftOut (w : Words) (v : ℕ) (b : Bool) : Type 0 where
+  pub says : (cs : List Contour) (ms : List ℕ) (n : ℕ) → length ms ≡ 2 * n → TalliedBy cs w ms n → Says b (LeftOutAt cs ms v)
 
 positive : (n : ℕ) → (n ≡ 0 → ⊥) → 0 < n
 positive zero f = absurd (f refl)
@@ -127,3 +133,18 @@ module _ (cs : List Contour) (total : ℕ) (ms : List ℕ) (n : ℕ) (work : Lis
         same c m o (inl e) = absurd (omega (arith, entered, entry_now c m o, e))
         same c m o (inr y) =
             omega (arith, cuts_now c m v o, once_now v, cuts_now c m (v + 1) (omega (arith, o), omega (arith, y.0)), once_now (v + 1))
+
+  -- a contour that is entered or takes no part, by a test of the words
+  pub says_open : (entry ≡ 1 → ⊥) → (b : Bool) → (IsTrue b ↔ Open total work v) → Says b (LeftOutAt cs ms v)
+  says_open z b (there, back) = record { tells = λ x. left (there (is_true b x)); told = λ x. subst T (sym (back (opened x))) tt }
+    where
+      left : Open total work v → LeftOutAt cs ms v
+      left (g, even, same, entered) = (says_uncut entered g even).tells ((says_eqb (word (v + 1) / 2) (word v / 2)).told (sym same))
+
+      opened : LeftOutAt cs ms v → Open total work v
+      opened (c, m, (o, inl e)) = absurd (z (omega (arith, entry_now c m o, e)))
+      opened (c, m, (o, inr y)) =
+          let entered : 2 ≤ entry = omega (arith, z, entry_now c m o) in
+          let g : v + 1 < total = omega (arith, y.0, t.within c m) in
+          let even : word v % 2 ≡ 0 = omega (arith, cuts_now c m v o, y.1) in
+          (g, even, sym ((says_eqb (word (v + 1) / 2) (word v / 2)).tells ((says_uncut entered g even).told (c, m, (o, inr y)))), entered)

@@ -5,46 +5,46 @@ ghost use Rattle.std.specs.Prelude.{◌≡◌, List, [], ◌∷◌, ℕ, ◌+◌
 ghost use Rattle.rules.specs.Tools.{sum, first_failing};
 ghost use Rattle.rules.specs.HandedOver.{Contour, contours_of, gives, refused_by, answer_of, WorkKept};
 ghost use Rattle.statement.specs.PathCheck as rule;
-ghost use Rattle.division.specs.Says.{Says};
-ghost use Rattle.path_rules.specs.Tallied.{Labelled, Tallied};
-ghost use Rattle.path_check.specs.Ending.{LeftOutAt};
+ghost use Rattle.path_rules.specs.Parts.{TalliedBy, SameWords};
+ghost use Rattle.path_check.specs.Ending.{TellsLeftOut};
 
-use path_rules::{ENTERED, MarkedPath, UNENTERED, Words};
+use path_rules::{MarkedPath, UNENTERED, Words};
 use plate::check_contours;
 use rules::Refusal;
 
 // The words before the first path point, where every contour takes part.
+// It carries `v`, the next contour's first vertex, and takes no `start::contours::Contours`: an empty contour's word is written too, and those leave it out.
+#[tactic(auto, using(crate::specs::Labels::next_end))]
 fn label<'a>(lengths: &[u32], work: &'a mut [u32], total: usize) -> Words<'a>
     requires { (total ≡ sum lengths.now) × (length lengths.now ≤ 4096) × (total + length lengths.now ≤ length work.old) }
-    ensures total { result.total ≡ total }
-    ensures tallied { (ms : List ℕ) → Tallied (contours_of lengths.now) total ms 0 result.work.now }
+    ensures total { length result.vertices.now ≡ total }
+    ensures tallied { (ms : List ℕ) → TalliedBy (contours_of lengths.now) result ms 0 }
 {
+    let (vertices, contours) = work.split_at_mut(total);
     let mut v: usize = 0;
     for (j, &length) in lengths.iter().enumerate() {
         let end = v + length as usize;
-        work[v..end].fill(2 * j as u32);
-        work[total + j] = UNENTERED;
+        vertices[v..end].fill(2 * j as u32);
+        contours[j] = UNENTERED;
         v = end;
     }
-    Words { work, total }
+    Words { vertices, contours }
 }
 
-// The first path point that breaks a rule.
+// The first path point that breaks a rule. A `for` and no chain: each point that keeps the rules alters the words that the next is tested by.
 fn first_failing(checked: &mut MarkedPath<'_, '_>) -> Option<usize>
     requires { (length checked.old.marks.now ≡ length checked.old.path.now)
         × (length checked.old.path.now ≡ 2 * (length checked.old.path.now / 2)) }
-    ensures total { checked.new.words.total ≡ checked.old.words.total }
-    ensures same { (checked.new.words.work.ghost_name ≡ checked.old.words.work.ghost_name)
-        × (length checked.new.words.work.now ≡ length checked.old.words.work.now) }
-    ensures found { (cs : List Contour) → Tallied cs checked.old.words.total checked.old.marks.now 0 checked.old.words.work.now →
+    ensures same { SameWords checked.old.words checked.new.words }
+    ensures found { (cs : List Contour) → TalliedBy cs checked.old.words checked.old.marks.now 0 →
         let n = length checked.old.path.now / 2 in
         IfSome result
         (λ i. (i < n) × (i ≡ first_failing (rule.keeps_rules cs checked.old.points.now checked.old.path.now checked.old.marks.now) 0 n)) }
-    ensures none { (cs : List Contour) → Tallied cs checked.old.words.total checked.old.marks.now 0 checked.old.words.work.now →
+    ensures none { (cs : List Contour) → TalliedBy cs checked.old.words checked.old.marks.now 0 →
         let n = length checked.old.path.now / 2 in
         IsNone result →
         (first_failing (rule.keeps_rules cs checked.old.points.now checked.old.path.now checked.old.marks.now) 0 n ≡ n)
-        × Tallied cs checked.old.words.total checked.old.marks.now n checked.new.words.work.now }
+        × TalliedBy cs checked.new.words checked.old.marks.now n }
 {
     for i in 0..checked.path.len() / 2 {
         if !checked.keeps_rules(i) {
@@ -57,46 +57,26 @@ fn first_failing(checked: &mut MarkedPath<'_, '_>) -> Option<usize>
 
 // Whether vertex v's contour is unentered, or there is a segment from v to v + 1 and it is uncut.
 fn leaves_out(words: &Words<'_>, v: usize) -> bool
-    requires { v < words.now.total }
-    ensures { (cs : List Contour) (ms : List ℕ) (n : ℕ) → length ms ≡ 2 * n → Tallied cs words.now.total ms n words.now.work.now →
-        Says result (LeftOutAt cs ms v) }
+    requires { v < length words.now.vertices.now }
+    ensures { TellsLeftOut words.now v result }
 {
-    let here = words.work[v];
-    let contour = (here / 2) as usize;
-    let word = words.work[words.total + contour];
-    if word < ENTERED {
-        return word == UNENTERED;
-    }
-    if here % 2 != 0 {
-        return false;
-    }
-    let next = v + 1;
-    if words.total <= next {
-        return false;
-    }
-    words.work[next] / 2 == here / 2
+    words.contour_word(v) == UNENTERED || words.is_open(v)
 }
 
 // Whether no contour is unentered and no segment uncut.
 fn is_complete(words: &Words<'_>) -> bool
-    ensures { (cs : List Contour) (ms : List ℕ) (n : ℕ) → length ms ≡ 2 * n → Tallied cs words.now.total ms n words.now.work.now →
+    ensures { (cs : List Contour) (ms : List ℕ) (n : ℕ) → length ms ≡ 2 * n → TalliedBy cs words.now ms n →
         result ≡ rule.complete cs ms }
 {
-    for v in 0..words.total {
-        if leaves_out(words, v) {
-            return false;
-        }
-    }
-    true
+    !(0..words.vertices.len()).any(|v| leaves_out(words, v))
 }
 
 // Refusal 12, over the contours that the work slice's words say.
 pub fn check_division(checked: &mut MarkedPath<'_, '_>) -> Result<(), Refusal>
     requires { (length checked.old.marks.now ≡ length checked.old.path.now)
         × (length checked.old.path.now ≡ 2 * (length checked.old.path.now / 2)) }
-    ensures same { (checked.new.words.work.ghost_name ≡ checked.old.words.work.ghost_name)
-        × (length checked.new.words.work.now ≡ length checked.old.words.work.now) }
-    ensures answer { (cs : List Contour) → Tallied cs checked.old.words.total checked.old.marks.now 0 checked.old.words.work.now →
+    ensures same { SameWords checked.old.words checked.new.words }
+    ensures answer { (cs : List Contour) → TalliedBy cs checked.old.words checked.old.marks.now 0 →
         answer_of result
         ≡ refused_by (rule.not_drawn cs checked.old.points.now (length checked.old.path.now / 2) checked.old.path.now checked.old.marks.now ∷ []) (gives tt) }
 {
@@ -122,10 +102,7 @@ pub fn check_path<'a>(
         (answer_of result ≡ a) × WorkKept a work.old work.new }
 {
     let total = check_contours(points, lengths)? as usize;
-    if path.len() % 2 != 0 {
-        return Err(Refusal::Miscounted);
-    }
-    if marks.len() != path.len() {
+    if path.len() % 2 != 0 || marks.len() != path.len() {
         return Err(Refusal::Miscounted);
     }
     if work.len() < total + lengths.len() {

@@ -1,21 +1,40 @@
 -- The slices after one more path point, for which there is room. Assumes nothing.
 use mathlib.Core.Path.{◌≡◌, refl}
 use mathlib.Core.List.{List, [], ◌∷◌, ◌++◌}
-use Prim.Native.Nat.{ℕ, ◌+◌, ◌*◌, ◌<◌}
+use Prim.Native.Nat.{ℕ, ◌+◌, ◌*◌, ◌≤◌, ◌<◌}
 use native.Mathlib.Omega.{arith}
 use lib.Ieee.{Float}
 use lib.ListN.{length, set, length-set}
+use Rattle.std.proofs.lemmas.List.{take-set-le}
 use Rattle.rules.specs.HandedOver.{at}
 use Rattle.rules.specs.declared.Point.{Point}
 use Rattle.rules.specs.declared.SpatialGrid.{SpatialGrid}
 use Rattle.path.specs.FiniteDistances.{OnPlate}
 use Rattle.layout.specs.Parts.{KeptFrom}
+use Rattle.history.specs.Cut.{ready_cut, ready_uncut}
 use Rattle.history.specs.History.{inserted}
 use Rattle.history.specs.Appending.{ready_append, inserted_kept}
 use Rattle.path_points.specs.Wrote.{wrote_put}
 use Rattle.path_points.specs.Pen.{Pen, Grows}
 
 module _ (g : SpatialGrid) (room count : ℕ) (path : List Float) (ms work : List ℕ) (h : Pen g room count path ms work) where
+  -- a coordinate behind the path
+  module _ (j : ℕ) (v : Float) (l : 2 * count ≤ j) where
+    pub behind_pen : Pen g room count (set path j v) ms work
+    behind_pen =
+        let low = h.path_room in
+        record {
+          sane = h.sane;
+          small = h.small;
+          most = h.most;
+          path_room = simp length-set low;
+          marks_room = h.marks_room;
+          work_room = h.work_room;
+          ready = λ m.
+              let old = ready_cut path count (omega arith) g work count (omega arith) (h.ready m) in
+              ready_uncut (set path j v) count (simp length-set (omega arith)) g work count (omega arith) (rw (take-set-le (2 * count) path j v l) old);
+        }
+
   module _ (l : count < room) (p : Point) (kind reference : ℕ) where
     abbrev put_path : List Float
     put_path = set (set path (2 * count) p.x) (2 * count + 1) p.y

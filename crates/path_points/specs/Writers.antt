@@ -3,7 +3,7 @@ use Rattle.std.specs.Prelude.{◌≡◌, refl, List, ◌++◌, ◌+◌, ◌≤�
 use Rattle.std.proofs.Common.{◌∙◌, arith}
 use Rattle.rules.specs.RetraceAndMarks.{Step}
 use Rattle.path_points.specs.Wrote.{wrote_full}
-use Rattle.path_points.specs.Writing.{reached, CanWrite, SameWriter, Written, Adds}
+use Rattle.path_points.specs.Writing.{reached, SameWriter, Written, Adds}
 use Rattle.path_points.specs.Drawing.{Drawing, drawing_none, drawing_then}
 use Rattle.path_points.specs.declared.Full.{Full}
 use Rattle.path_points.specs.declared.PathWriter.{PathWriter}
@@ -20,10 +20,10 @@ drawing_of xs w w' r f d =
     let t = d.written in
     record { pen = t.pen; same_path = t.same_path; same_marks = t.same_marks; same_work = t.same_work; kept = t.kept; grows = d.adds }
 
-pub by_none : (xs : List Float) (w : PathWriter) → CanWrite w → w.count ≤ w.room → (f : List Step → List Step) → ((ss : List Step) → f ss ≡ ss) →
+pub by_none : (xs : List Float) (w : PathWriter) → w.count ≤ w.room → (f : List Step → List Step) → ((ss : List Step) → f ss ≡ ss) →
     DrawingBy xs w w (Ok tt) f
-by_none xs w p l f e =
-    let o = drawing_none xs w.grid.spatial w.room w.count w.path.now w.marks.now w.work.now p f e in
+by_none xs w l f e =
+    let o = drawing_none xs w.grid.spatial w.room w.count w.path.now w.marks.now w.work.now w.pen f e in
     record {
       same = (refl, refl, refl, refl, refl);
       written =

@@ -11,10 +11,6 @@ abbrev pub reached : ℕ → ℕ → Result (Unit {0}) Full → ℕ
 reached room count (Ok _) = count
 reached room count (Err _) = room + 1
 
--- the writer's slices have room, and hold the path so far
-abbrev pub CanWrite : PathWriter → Type 0
-CanWrite w = Pen w.grid.spatial w.room w.count w.path.now w.marks.now w.work.now
-
 -- a writer keeps its grid, its room and its slices
 abbrev pub SameWriter : PathWriter → PathWriter → Type 0
 SameWriter w w' =

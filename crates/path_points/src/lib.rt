@@ -1,41 +1,51 @@
 // Path points with their marks: written to the lent slices and put on the chains of their cells, as many as there is room for.
 #![tactic(auto)]
 
-ghost use Rattle.std.specs.Prelude.{◌≡◌, List, [], ◌∷◌, ◌++◌, ℕ, ◌+◌, ◌≤◌, ◌<◌, Float};
+ghost use Rattle.std.specs.Prelude.{◌≡◌, List, [], ◌∷◌, ◌++◌, ℕ, ◌+◌, ◌*◌, ◌≤◌, ◌<◌, length, take, Float};
 ghost use Rattle.rules.specs.HandedOver.{at};
 ghost use Rattle.rules.specs.Marks.{kind_of, reference_of};
 ghost use Rattle.rules.specs.RetraceAndMarks.{walk_back};
 ghost use Rattle.path.specs.FiniteDistances.{OnPlate};
-ghost use Rattle.path_points.specs.Writing.{reached, CanWrite, SameWriter, Written, Adds};
+ghost use Rattle.path_points.specs.Pen.{Pen};
+ghost use Rattle.path_points.specs.Props.{pen_prop};
 
 use grid::Grid;
-use history::{PathSoFar, insert};
+use history::insert;
 use rules::{Mark, PathPlace, Point, path_point};
 
 // There are more path points than there is room for.
 #[derive(Clone, Copy, PartialEq, Eq)]
 pub struct Full;
 
-// The lent slices, of which the first `count` points are the path so far. That they are (CanWrite) is no ghost field: a writer is made before its
-// chains are cleared.
+// The lent slices, of which the first `count` points are the path so far.
 #[derive(Drop)]
 pub struct PathWriter<'a> {
     pub grid: Grid,
+    // No slice's length: it is the least of three, and the parts of `work` that others hold begin behind 2916 + room. C lends the slices, so no `Vec`.
     pub room: u32,
     pub path: &'a mut [f64],
     pub marks: &'a mut [u32],
     pub work: &'a mut [u32],
     pub count: u32,
+    ghost pen: { Pen grid.spatial room count path.now marks.now work.now } by { pen_prop grid.spatial room count path.now marks.now work.now },
 }
 
 impl PathWriter<'_> {
-    pub fn so_far(&self) -> PathSoFar<'_>
-        ensures { (result.points.now ≡ self.now.path.now) × (result.count ≡ self.now.count) }
+    ghost use Rattle.path_points.specs.Writing.{reached, SameWriter, Written, Adds};
+
+    // The path's points alone, in the order of the path. A count of room + 1 says that the path is full, and the slice may end before it.
+    pub fn so_far(&self) -> &[f64]
+        ensures { result.now ≡ take (2 * self.now.count) self.now.path.now }
     {
-        PathSoFar {
-            points: &*self.path,
-            count: self.count,
-        }
+        &self.path[..(2 * self.count as usize).min(self.path.len())]
+    }
+
+    // The point at a place of the path.
+    pub fn point(&self, place: PathPlace) -> Point
+        requires { 2 * place.0 + 1 < length self.now.path.now }
+        ensures { result ≡ at self.now.path.now place.0 }
+    {
+        path_point(&*self.path, place)
     }
 
     pub fn work(&self) -> &[u32]
@@ -46,7 +56,6 @@ impl PathWriter<'_> {
 
     // One more path point.
     pub fn put(&mut self, p: Point, mark: Mark) -> Result<(), Full>
-        requires writable { CanWrite self.old }
         requires on_plate { OnPlate p.x × OnPlate p.y }
         ensures same { SameWriter self.old self.new }
         ensures written { Written self.old self.new result }
@@ -70,7 +79,6 @@ impl PathWriter<'_> {
 
     // Back along the path to place h.
     pub fn walk_back(&mut self, h: PathPlace) -> Result<(), Full>
-        requires writable { CanWrite self.old }
         requires behind { self.old.count ≤ self.old.room → h.0 < self.old.count }
         ensures same { SameWriter self.old self.new }
         ensures written { Written self.old self.new result }
@@ -81,7 +89,7 @@ impl PathWriter<'_> {
         }
         for place in (h.0..self.count - 1).rev() {
             let place = PathPlace(place);
-            let p = path_point(self.so_far().points, place);
+            let p = self.point(place);
             self.put(p, Mark::BackStep(place))?;
         }
         Ok(())

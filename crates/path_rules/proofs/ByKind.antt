@@ -1,6 +1,6 @@
 -- The rule that a path point keeps, by the kind of its mark. Assumes nothing.
-use mathlib.Core.Path.{◌≡◌, refl, sym}
-use mathlib.Core.Bool.{Bool, true, false, ◌||◌}
+use mathlib.Core.Path.{◌≡◌, refl, sym, ◌∙◌}
+use mathlib.Core.Bool.{Bool, true, false, ◌||◌, or-false}
 use mathlib.Core.List.{List}
 use Prim.Native.Nat.{ℕ, zero, suc, ◌-◌, ◌≤◌, ◌<◌}
 use native.Mathlib.Omega.{arith}
@@ -22,14 +22,6 @@ landing_above a b = go (coincide a b)
     go true = (omega arith, omega arith)
     go false = (omega arith, omega arith)
 
-or_none : (b : Bool) → (b || false) ≡ b
-or_none true = refl
-or_none false = refl
-
-or_neither : (b : Bool) → ((b || false) || false) ≡ b
-or_neither true = refl
-or_neither false = refl
-
 module _ (cs : List Contour) (xs path : List Float) (ms : List ℕ) where
   module _ (k kind r : ℕ) where
     abbrev landing : ℕ
@@ -43,7 +35,7 @@ module _ (cs : List Contour) (xs path : List Float) (ms : List ℕ) where
           ne_eqb kind back_step_kind (λ x. omega (arith, e, x)),
           ne_eqb kind landing (λ x. omega (arith, e, x, landing_above (at path k) (at path (suc k)))),
         )
-        (or_neither (cuts_fresh cs xs path ms k r))
+        (or-false (cuts_fresh cs xs path ms k r || false) ∙ or-false (cuts_fresh cs xs path ms k r))
 
     by_back : kind ≡ back_step_kind → keeps_after cs xs path ms k kind r ≡ reverses path k r
     unfolding keeps_after
@@ -53,7 +45,7 @@ module _ (cs : List Contour) (xs path : List Float) (ms : List ℕ) where
           eq-eqb kind back_step_kind e,
           ne_eqb kind landing (λ x. omega (arith, e, x, landing_above (at path k) (at path (suc k)))),
         )
-        (or_none (reverses path k r))
+        (or-false (reverses path k r))
 
     module _ (c : kind ≡ cut_kind → ⊥) (b : kind ≡ back_step_kind → ⊥) where
       by_landing : kind ≡ landing → keeps_after cs xs path ms k kind r ≡ lands_fresh cs xs path ms (suc k) r
@@ -100,6 +92,11 @@ module _ (cs : List Contour) (xs path : List Float) (ms : List ℕ) where
   unfolding keeps_rules
   no_landing zero n c b l = absurd (n refl)
   no_landing (suc i) n c b l = sym (by_none i (kind_at ms (suc i)) (reference_at ms (suc i)) c b (λ x. l (rw (before i) x)))
+
+  -- a start that is not the first
+  pub late_start : (i : ℕ) → (i ≡ 0 → ⊥) → kind_at ms i ≡ start_kind → false ≡ keeps_rules cs xs path ms i
+  late_start i n k =
+      no_landing i n (λ x. omega (arith, k, x)) (λ x. omega (arith, k, x)) (λ x. omega (arith, k, x, landing_above (at path (i - 1)) (at path i)))
 
   -- there is no such kind
   pub no_kind : (i : ℕ) → (kind_at ms i ≤ 4 → ⊥) → false ≡ keeps_rules cs xs path ms i

@@ -1,10 +1,11 @@
 -- What the words of the work slice say of a landing. Assumes nothing.
-use mathlib.Core.Path.{◌≡◌, sym, subst}
-use mathlib.Core.Bool.{Bool, true, false}
+use mathlib.Core.Path.{◌≡◌, subst}
+use mathlib.Core.Bool.{true, false}
 use mathlib.Core.List.{List}
 use Prim.Native.Nat.{ℕ, ◌≤◌, ◌<◌}
 use native.Mathlib.Omega.{arith}
 use lib.Dec.{T, not_T, eqb}
+use Rattle.std.proofs.lemmas.Float.{T_from_true}
 use lib.Ieee.{Float}
 use lib.Ieee.Bits.{is_false}
 use Rattle.rules.specs.HandedOver.{Contour, at}
@@ -15,12 +16,6 @@ use Rattle.division.specs.SameBits.{says_point}
 use Rattle.division.specs.Rules.{LandsFresh, says_lands}
 use Rattle.path_rules.specs.Tallied.{Tallied}
 use Rattle.path_rules.specs.Words.{contour_word, word_of}
-
-pub holds : (b : Bool) → b ≡ true → T b
-holds b e = subst T (sym e) tt
-
-pub fails : (b : Bool) → b ≡ false → T b → ⊥
-fails b e t = subst T e t
 
 module _ (cs : List Contour) (total : ℕ) (ms : List ℕ) (i : ℕ) (work : List ℕ) (t : Tallied cs total ms i work) (xs path : List Float)
     (v : ℕ) where
@@ -33,7 +28,7 @@ module _ (cs : List Contour) (total : ℕ) (ms : List ℕ) (i : ℕ) (work : Lis
 
   -- another point
   pub lands_other : same_point (at path i) (at xs v) ≡ false → lands_fresh cs xs path ms i v ≡ false
-  lands_other h = refuted (λ q. fails (same_point (at path i) (at xs v)) h ((says_point (at path i) (at xs v)).told q.0))
+  lands_other h = refuted (λ q. subst T h ((says_point (at path i) (at xs v)).told q.0))
 
   fresh_told : v < total → at path i ≡ at xs v → contour_word total work v ≡ 1 → LandsFresh cs xs path ms i v
   fresh_told h here z =
@@ -46,7 +41,7 @@ module _ (cs : List Contour) (total : ℕ) (ms : List ℕ) (i : ℕ) (work : Lis
   -- at this point the word decides
   pub lands_here : v < total → same_point (at path i) (at xs v) ≡ true → eqb (contour_word total work v) 1 ≡ lands_fresh cs xs path ms i v
   lands_here h s =
-      let here = (says_point (at path i) (at xs v)).tells (holds _ s) in
+      let here = (says_point (at path i) (at xs v)).tells (T_from_true _ s) in
       says_one (eqb (contour_word total work v) 1) (lands_fresh cs xs path ms i v) (contour_word total work v ≡ 1) (says_eqb (contour_word total work v) 1)
       (says_by (lands_fresh cs xs path ms i v) (LandsFresh cs xs path ms i v) (contour_word total work v ≡ 1) fresh_tells (fresh_told h here)
       (says_lands cs xs path ms i v))

@@ -2,14 +2,16 @@
 use mathlib.Core.Path.{◌≡◌, refl, sym, ap, ◌∙◌, subst}
 use mathlib.Core.Logic.{◌⊎◌, inl, inr}
 use mathlib.Core.Bool.{Bool, true, false, ◌&&◌}
-use mathlib.Core.List.{List}
-use Prim.Native.Nat.{ℕ, zero, suc, ◌+◌, ◌*◌, ◌/◌, ◌≤◌, ◌<◌}
+use mathlib.Core.List.{List, ◌++◌}
+use Prim.Native.Nat.{ℕ, zero, suc, ◌+◌, ◌-◌, ◌*◌, ◌/◌, ◌≤◌, ◌<◌}
 use native.Mathlib.Decide.{ℕ_discrete}
 use native.Mathlib.Omega.{arith}
 use lib.Dec.{T, eqb}
 use lib.Ieee.{Float}
-use lib.ListN.{length, get_or, set, length-set}
+use lib.ListN.{length, get_or, set}
 use lib.Seq.{get_or-set_same, get_or-set_other}
+use Rattle.std.proofs.lemmas.Float.{T_from_true}
+use Rattle.std.proofs.lemmas.List.{get_or_append_left, set-append_left, set-append_right}
 use borrow.Author.Tests.{eq-eqb, ne_eqb}
 use Rattle.rules.specs.Tools.{pick}
 use Rattle.rules.specs.HandedOver.{Contour}
@@ -22,7 +24,6 @@ use Rattle.division.specs.MarkCounts.{passing, count_step}
 use Rattle.division.specs.Rules.{KeepsAfter, says_of, says_keeps, says_start}
 use Rattle.path_rules.specs.Tallied.{Labelled, Tallied}
 use Rattle.path_rules.specs.Words.{number_at, contour_word, number_of, word_of}
-use Rattle.path_rules.proofs.Landing.{holds}
 
 -- ---- what one mark more counts
 
@@ -100,8 +101,8 @@ module _ (cs : List Contour) (xs path : List Float) (ms : List ℕ) where
 
   cut_rule : (i : ℕ) → keeps_rules cs xs path ms i ≡ true → kind_at ms i ≡ cut_kind → Uncut i
   unfolding keeps_rules
-  cut_rule zero kept e = absurd (omega (arith, e, ((says_start cs xs path ms).tells (holds _ kept)).0))
-  cut_rule (suc k) kept e = cases ((says_keeps cs xs path ms k (kind_at ms (suc k)) (reference_at ms (suc k))).tells (holds _ kept))
+  cut_rule zero kept e = absurd (omega (arith, e, ((says_start cs xs path ms).tells (T_from_true _ kept)).0))
+  cut_rule (suc k) kept e = cases ((says_keeps cs xs path ms k (kind_at ms (suc k)) (reference_at ms (suc k))).tells (T_from_true _ kept))
     where
       cases : KeepsAfter cs xs path ms k (kind_at ms (suc k)) (reference_at ms (suc k)) → Uncut (suc k)
       cases (inl (inl (x, c))) = let o = c.0.1 in ((o.0, o.1, o.2.0.0), c.1)
@@ -112,10 +113,10 @@ module _ (cs : List Contour) (xs path : List Float) (ms : List ℕ) where
   entry_rule : (i : ℕ) → keeps_rules cs xs path ms i ≡ true → (kind_at ms i ≡ cut_kind → ⊥) → (kind_at ms i ≡ back_step_kind → ⊥) → Entered i
   unfolding keeps_rules enters
   entry_rule zero kept a b =
-      let q = (says_start cs xs path ms).tells (holds _ kept) in
+      let q = (says_start cs xs path ms).tells (T_from_true _ kept) in
       let f = q.1.1 in
       (rw q.0 tt, (f.0, f.1, f.2.0, f.2.1))
-  entry_rule (suc k) kept a b = cases ((says_keeps cs xs path ms k (kind_at ms (suc k)) (reference_at ms (suc k))).tells (holds _ kept))
+  entry_rule (suc k) kept a b = cases ((says_keeps cs xs path ms k (kind_at ms (suc k)) (reference_at ms (suc k))).tells (T_from_true _ kept))
     where
       cases : KeepsAfter cs xs path ms k (kind_at ms (suc k)) (reference_at ms (suc k)) → Entered (suc k)
       cases (inl (inl (x, c))) = absurd (a x)
@@ -158,25 +159,18 @@ module _ (total : ℕ) (work : List ℕ) (l : Labelled total work) (r : ℕ) (lo
   entry_elsewhere : (n : ℕ) → (n ≡ number_at work r → ⊥) → get_or (entry_work total work r) (total + n) 0 ≡ get_or work (total + n) 0
   entry_elsewhere n d = get_or-set_other work (total + number_at work r) (total + n) 2 0 (λ x. d (omega (arith, x)))
 
-  -- a word that names the same contour, and any word of a contour, leave all words labelled
-  pub named_labelled : (w : ℕ) → w / 2 ≡ number_at work r → Labelled total (set work r w)
-  named_labelled w same =
-      record {
-        vertices = omega (arith, length-set work r w, l.vertices);
-        numbers = λ v h. omega (arith, length-set work r w, numbered v h (ℕ_discrete v r));
-      }
-    where
-      numbered : (v : ℕ) → v < total → Dec (v ≡ r) → total + number_at (set work r w) v < length work
-      numbered v h (yes x) = rw x (omega (arith, same, l.numbers r low, get_or-set_same work r w 0 (omega (arith, l.vertices, low))))
-      numbered v h (no x) = omega (arith, l.numbers v h, get_or-set_other work r v w 0 x)
+-- the same of the words in two parts
+pub cut_part : (vertices contours : List ℕ) (r : ℕ) → r < length vertices →
+    cut_work (vertices ++ contours) r ≡ set vertices r (2 * (get_or vertices r 0 / 2) + 1) ++ contours
+cut_part vertices contours r low = rw (get_or_append_left vertices contours 0 r low) (set-append_left vertices contours r _ low)
 
-  pub entry_labelled : (w : ℕ) → Labelled total (set work (total + number_at work r) w)
-  entry_labelled w =
-      let place = total + number_at work r in
-      record {
-        vertices = omega (arith, length-set work place w, l.vertices);
-        numbers = λ v h. omega (arith, length-set work place w, l.numbers v h, get_or-set_other work place v w 0 (λ x. omega (arith, x, h)));
-      }
+pub entry_part : (vertices contours : List ℕ) (r : ℕ) → r < length vertices →
+    entry_work (length vertices) (vertices ++ contours) r ≡ vertices ++ set contours (get_or vertices r 0 / 2) 2
+entry_part vertices contours r low =
+    let n = get_or vertices r 0 / 2 in
+    let e : length vertices + n - length vertices ≡ n = omega arith in
+    rw (get_or_append_left vertices contours 0 r low)
+    (set-append_right vertices contours (length vertices) (length vertices + n) 2 refl (omega arith) ∙ rw e refl)
 
 -- ---- by kinds
 

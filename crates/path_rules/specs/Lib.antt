@@ -1,3 +1,4 @@
 pub mod Tallied
 pub mod Words
 pub mod Props
+pub mod Parts

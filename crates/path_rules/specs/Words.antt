@@ -1,5 +1,5 @@
 -- What the words of the work slice say of a vertex of a contour that takes part. Assumes nothing.
-use Rattle.std.specs.Prelude.{◌≡◌, List, ℕ, ◌+◌, ◌/◌, get_or}
+use Rattle.std.specs.Prelude.{◌≡◌, List, ℕ, ◌+◌, ◌/◌, ◌%◌, ◌≤◌, ◌<◌, get_or}
 use Rattle.std.proofs.Common.{arith}
 use Rattle.rules.specs.HandedOver.{Contour}
 use Rattle.statement.specs.PathStatement.{Among, Of}
@@ -12,6 +12,11 @@ number_at work v = get_or work v 0 / 2
 
 abbrev pub contour_word : ℕ → List ℕ → ℕ → ℕ
 contour_word total work v = get_or work (total + number_at work v) 0
+
+-- there is a segment from vertex v, which is uncut, of a contour that is entered
+abbrev pub Open : ℕ → List ℕ → ℕ → Type 0
+Open total work v =
+    (v + 1 < total) × (get_or work v 0 % 2 ≡ 0) × (number_at work v ≡ number_at work (v + 1)) × (2 ≤ contour_word total work v)
 
 module _ (cs : List Contour) (total : ℕ) (ms : List ℕ) (i : ℕ) (work : List ℕ) (t : Tallied cs total ms i work) (c : Contour) (m : Among c cs) (v : ℕ)
     (o : Of c v) where

@@ -1,31 +1,22 @@
 // Whether a path point keeps the rules of a path that is checked, by the words of the work slice; and the words after it.
 #![tactic(auto)]
 
-ghost use Rattle.std.specs.Prelude.{◌≡◌, true, List, ℕ, ◌+◌, ◌*◌, ◌≤◌, ◌<◌, ◌↔◌, suc, length, Float, IsSome, IfSome};
+ghost use Rattle.std.specs.Prelude.{◌≡◌, true, List, ℕ, ◌+◌, ◌*◌, ◌%◌, ◌≤◌, ◌<◌, ◌↔◌, ◌||◌, suc, length, get_or, Float, IsTrue, IsSome, IfSome};
 ghost use Rattle.rules.specs.HandedOver.{Contour, at};
 ghost use Rattle.rules.specs.Marks.{kind_of, reference_of};
 ghost use Rattle.rules.specs.declared.Point.{Point};
 ghost use Rattle.statement.specs.PathStatement.{kind_at, reference_at};
 ghost use Rattle.statement.specs.PathCheck as rule;
-ghost use Rattle.path_rules.specs.Tallied.{Labelled, Tallied, Names};
-ghost use Rattle.path_rules.specs.Props.{labelled_prop};
+ghost use Rattle.path_rules.specs.Tallied.{Names};
+ghost use Rattle.path_rules.specs.Words.{number_at, contour_word, Open};
+ghost use Rattle.path_rules.specs.Parts.{words_of, TalliedBy, SameWords};
+
+mod work;
 
 use bits::same_point;
 use mark_kinds::landing_mark;
 use rules::{Mark, PathPlace, Point, Vertex, point_at, point_in};
-
-// A contour's word in the work slice: 0 where it takes no part, else one of these. They are numbers of a slice that the caller lends.
-pub const UNENTERED: u32 = 1;
-
-pub const ENTERED: u32 = 2;
-
-// The work slice while a path is checked: a word for each of `total` vertices, and behind these a word for each contour.
-#[derive(Drop)]
-pub struct Words<'a> {
-    pub work: &'a mut [u32],
-    pub total: usize,
-    ghost labelled: { Labelled total work.now } by { labelled_prop total work.now },
-}
+pub use work::{ENTERED, UNENTERED, Words};
 
 // A path that is checked, with the points of its plate.
 #[derive(Drop)]
@@ -34,7 +25,7 @@ pub struct MarkedPath<'a, 'w> {
     pub path: &'a [f64],
     pub marks: &'a [u32],
     pub words: Words<'w>,
-    ghost vertices: { 2 * words.total ≤ length points.now },
+    ghost vertices: { 2 * length words.vertices.now ≤ length points.now },
 }
 
 // The mark of path point i, where it has a kind.
@@ -67,24 +58,61 @@ fn reverses(path: &[f64], k: usize, place: PathPlace) -> bool
 }
 
 impl Words<'_> {
+    // The number of vertex v's contour.
+    fn contour_of(&self, v: usize) -> u32
+        requires { v < length self.now.vertices.now }
+        ensures { result ≡ number_at (words_of self.now) v }
+    {
+        self.vertices[v] / 2
+    }
+
+    // The word of vertex v's contour.
+    pub fn contour_word(&self, v: usize) -> u32
+        requires { v < length self.now.vertices.now }
+        ensures { result ≡ contour_word (length self.now.vertices.now) (words_of self.now) v }
+    {
+        self.contours[self.contour_of(v) as usize]
+    }
+
+    // Whether the segment from vertex v is cut.
+    fn is_cut(&self, v: usize) -> bool
+        requires { v < length self.now.vertices.now }
+        ensures { IsTrue result ↔ (get_or (words_of self.now) v 0 % 2 ≡ 1) }
+    {
+        self.vertices[v] % 2 == 1
+    }
+
+    // Whether there is a segment from vertex v, which is uncut, of a contour that is entered.
+    pub fn is_open(&self, v: usize) -> bool
+        requires { v < usize.MAX }
+        ensures { IsTrue result ↔ Open (length self.now.vertices.now) (words_of self.now) v }
+    {
+        let next = v + 1;
+        next < self.vertices.len()
+            && !self.is_cut(v)
+            && self.contour_of(v) == self.contour_of(next)
+            && self.contour_word(v) >= ENTERED
+    }
+
     // The words after path point i, which keeps the rules.
     pub fn tally(&mut self, marks: &[u32], i: usize)
-        requires { (2 * i + 1 < length marks.now) × Names self.old.total marks.now i }
-        ensures total { self.new.total ≡ self.old.total }
-        ensures same { (self.new.work.ghost_name ≡ self.old.work.ghost_name) × (length self.new.work.now ≡ length self.old.work.now) }
-        ensures tallied { (cs : List Contour) (xs path : List Float) → Tallied cs self.old.total marks.now i self.old.work.now →
-            rule.keeps_rules cs xs path marks.now i ≡ true → Tallied cs self.old.total marks.now (suc i) self.new.work.now }
+        requires { (2 * i + 1 < length marks.now) × Names (length self.old.vertices.now) marks.now i }
+        ensures same { SameWords self.old self.new }
+        ensures tallied { (cs : List Contour) (xs path : List Float) → TalliedBy cs self.old marks.now i →
+            rule.keeps_rules cs xs path marks.now i ≡ true → TalliedBy cs self.new marks.now (suc i) }
     {
         let Some(mark) = mark_at(marks, i) else {
             return;
         };
-        let vertex = mark.reference() as usize;
         match mark {
             Mark::BackStep(_) => {}
-            Mark::Cut(_) => self.work[vertex] = 2 * (self.work[vertex] / 2) + 1,
-            _ => {
-                let contour = (self.work[vertex] / 2) as usize;
-                self.work[self.total + contour] = ENTERED;
+            Mark::Cut(v) => {
+                let vertex = v.0 as usize;
+                self.vertices[vertex] = 2 * (self.vertices[vertex] / 2) + 1;
+            }
+            Mark::Start(v) | Mark::Jump(v) | Mark::Touch(v) => {
+                let contour = (self.vertices[v.0 as usize] / 2) as usize;
+                self.contours[contour] = ENTERED;
             }
         }
     }
@@ -94,76 +122,64 @@ impl MarkedPath<'_, '_> {
     // Whether path point i is vertex v, of a contour that is not entered before.
     fn lands_fresh(&self, i: usize, v: Vertex) -> bool
         requires { 2 * i + 1 < length self.now.path.now }
-        ensures fresh { (cs : List Contour) (ms : List ℕ) → Tallied cs self.now.words.total ms i self.now.words.work.now →
+        ensures fresh { (cs : List Contour) (ms : List ℕ) → TalliedBy cs self.now.words ms i →
             result ≡ rule.lands_fresh cs self.now.points.now self.now.path.now ms i v.0 }
-        ensures named { result ≡ true → v.0 < self.now.words.total }
+        ensures named { result ≡ true → v.0 < length self.now.words.vertices.now }
     {
-        let total = self.words.total;
         let vertex = v.0 as usize;
-        if total <= vertex {
-            return false;
-        }
-        if !same_point(point_in(self.path, i), point_at(self.points, v)) {
-            return false;
-        }
-        let contour = (self.words.work[vertex] / 2) as usize;
-        self.words.work[total + contour] == UNENTERED
+        vertex < self.words.vertices.len()
+            && same_point(point_in(self.path, i), point_at(self.points, v))
+            && self.words.contour_word(vertex) == UNENTERED
+    }
+
+    // Whether path points k and k + 1 are the ends of segment v, in one order or the other.
+    fn goes_along(&self, k: usize, v: usize) -> bool
+        requires { (2 * k + 3 < length self.now.path.now) × (v + 1 < length self.now.words.vertices.now) }
+        ensures { result
+            ≡ rule.goes self.now.path.now k (at self.now.points.now v) (at self.now.points.now (suc v))
+            || rule.goes self.now.path.now k (at self.now.points.now (suc v)) (at self.now.points.now v) }
+    {
+        let a = point_in(self.points, v);
+        let b = point_in(self.points, v + 1);
+        goes(self.path, k, a, b) || goes(self.path, k, b, a)
     }
 
     // Whether path points k and k + 1 are the ends of segment v, of a contour that is entered before; the segment is not cut before.
     fn cuts_fresh(&self, k: usize, v: Vertex) -> bool
         requires { 2 * k + 3 < length self.now.path.now }
-        ensures fresh { (cs : List Contour) (ms : List ℕ) → Tallied cs self.now.words.total ms (suc k) self.now.words.work.now →
+        ensures fresh { (cs : List Contour) (ms : List ℕ) → TalliedBy cs self.now.words ms (suc k) →
             result ≡ rule.cuts_fresh cs self.now.points.now self.now.path.now ms k v.0 }
-        ensures named { result ≡ true → v.0 < self.now.words.total }
+        ensures named { result ≡ true → v.0 < length self.now.words.vertices.now }
     {
-        let total = self.words.total;
-        let lower = v.0 as usize;
-        let upper = lower + 1;
-        if total <= upper {
-            return false;
-        }
-        let here = self.words.work[lower];
-        if here / 2 != self.words.work[upper] / 2 {
-            return false;
-        }
-        if here % 2 != 0 {
-            return false;
-        }
-        let contour = (here / 2) as usize;
-        if self.words.work[total + contour] < ENTERED {
-            return false;
-        }
-        let a = point_in(self.points, lower);
-        let b = point_in(self.points, upper);
-        goes(self.path, k, a, b) || goes(self.path, k, b, a)
+        let vertex = v.0 as usize;
+        self.words.is_open(vertex) && self.goes_along(k, vertex)
     }
 
     // Whether path point i keeps the rules.
     pub fn keeps_rules(&self, i: usize) -> bool
         requires { (2 * i + 1 < length self.now.path.now) × (2 * i + 1 < length self.now.marks.now) }
-        ensures rules { (cs : List Contour) → Tallied cs self.now.words.total self.now.marks.now i self.now.words.work.now →
+        ensures rules { (cs : List Contour) → TalliedBy cs self.now.words self.now.marks.now i →
             result ≡ rule.keeps_rules cs self.now.points.now self.now.path.now self.now.marks.now i }
-        ensures named { result ≡ true → Names self.now.words.total self.now.marks.now i }
+        ensures named { result ≡ true → Names (length self.now.words.vertices.now) self.now.marks.now i }
     {
         let Some(mark) = mark_at(self.marks, i) else {
             return false;
         };
-        let v = Vertex(mark.reference());
         if i == 0 {
             return match mark {
-                Mark::Start(_) => self.lands_fresh(i, v),
+                Mark::Start(v) => self.lands_fresh(i, v),
                 _ => false,
             };
         }
         let k = i - 1;
         match mark {
-            Mark::Cut(_) => self.cuts_fresh(k, v),
+            Mark::Cut(v) => self.cuts_fresh(k, v),
             Mark::BackStep(place) => reverses(self.path, k, place),
-            _ => {
-                let landing = landing_mark(point_in(self.path, k), point_in(self.path, i), v);
-                mark.kind() == landing.kind() && self.lands_fresh(i, v)
+            Mark::Jump(v) | Mark::Touch(v) => {
+                mark == landing_mark(point_in(self.path, k), point_in(self.path, i), v)
+                    && self.lands_fresh(i, v)
             }
+            Mark::Start(_) => false,
         }
     }
 }

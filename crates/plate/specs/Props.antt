@@ -8,7 +8,7 @@ use Rattle.path.specs.Lists.{All}
 use Rattle.path.specs.FiniteDistances.{OnPlate}
 use Rattle.path.specs.Accepted.{Accepted}
 
-on_plate_prop : (xs : List Float) → IsProp (All OnPlate xs)
+pub on_plate_prop : (xs : List Float) → IsProp (All OnPlate xs)
 on_plate_prop [] = Unit-prop
 on_plate_prop (x ∷ xs) = ×_prop (T_prop (in_range plate_limit x)) (on_plate_prop xs)
 

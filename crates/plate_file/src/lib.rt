@@ -11,7 +11,7 @@ ghost use Rattle.file_laws.specs.Counting.{counted};
 use file_block::{count_in, is_sound, write_block};
 use file_format::{BLOCK_BYTES, BLOCK_POINTS, PLACES_AT};
 use little_endian::read_f64s;
-use plate::{PLATE_LIMIT, first_off};
+use plate::{PLATE_LIMIT, check_range};
 use rules::{MOST_PATH_POINTS, Refusal};
 
 // The coordinates of a full block.
@@ -23,6 +23,8 @@ fn write_blocks(path: &[f64], file: &mut [u8])
     requires numbers { All NoNan path.now }
     ensures { file.new ≡ over (write_file path.now) file.old }
 {
+    // By an index: of the blocks that chunks_exact_mut lends, a proof knows no element afterwards. The path is cut by the same index, since its last share
+    // may be empty, which chunks would leave out.
     for i in 0..path.len() / BLOCK_NUMBERS + 1 {
         let from = BLOCK_BYTES * i;
         let left = &path[BLOCK_NUMBERS * i..];
@@ -47,9 +49,7 @@ pub fn write_file(path: &[f64], file: &mut [u8]) -> Result<u32, Refusal>
     if path.len() % 2 != 0 {
         return Err(Refusal::Miscounted);
     }
-    if let Some(k) = first_off(PLATE_LIMIT, path) {
-        return Err(Refusal::OffThePlate(k as u32));
-    }
+    check_range(PLATE_LIMIT, path)?;
     let bytes = BLOCK_BYTES * (points / BLOCK_POINTS + 1);
     if file.len() < bytes {
         return Err(Refusal::Full(0));
@@ -90,6 +90,7 @@ fn copy_blocks(file: &[u8], path: &mut [f64])
     ensures { path.new ≡ coordinates_of (read_file file.now) }
 {
     let (blocks, _) = file.as_chunks::<BLOCK_BYTES>();
+    // The path is cut by an index: of the shares that chunks_mut lends, a proof knows no element afterwards.
     for (i, block) in blocks.iter().enumerate() {
         let from = BLOCK_NUMBERS * i;
         let share = (path.len() - from).min(BLOCK_NUMBERS);

@@ -11,11 +11,7 @@ pub fn is_sum_above(dx: f64, dy: f64, best: f64) -> bool
 {
     let square = dx * dx;
     let under = square * 0.999999999068677425384521484375;
-    if under < square {
-        best < under + dy * dy
-    } else {
-        false
-    }
+    under < square && best < under + dy * dy
 }
 
 // Whether q is surely farther from p than `best` (`beyond_above`): a bound of the squared distance that is quick to form is already above it.

@@ -8,7 +8,7 @@ ghost use Rattle.rules.specs.Calls.{distance_call};
 
 use compare::is_finite;
 use fused_sum::square_plus;
-use plate::first_off;
+use plate::check_range;
 use rules::{Point, Refusal};
 use square_root::square_root;
 
@@ -21,10 +21,7 @@ pub fn distance_squared(p: Point, q: Point) -> f64
     let dx = p.x - q.x;
     let dy = p.y - q.y;
     let square = dy * dy;
-    if !is_finite(dx) {
-        return dx * dx + square;
-    }
-    if !is_finite(square) {
+    if !is_finite(dx) || !is_finite(square) {
         return dx * dx + square;
     }
     square_plus(dx, square)
@@ -48,8 +45,6 @@ const DISTANCE_LIMIT: f64 = 2147483648.0;
 pub fn distance_call(a: Point, b: Point) -> Result<(f64, f64), Refusal>
     ensures { answer_of result ≡ distance_call a b }
 {
-    match first_off(DISTANCE_LIMIT, &[a.x, a.y, b.x, b.y]) {
-        Some(place) => Err(Refusal::OffThePlate(place as u32)),
-        None => Ok((distance_squared(a, b), distance(a, b))),
-    }
+    check_range(DISTANCE_LIMIT, &[a.x, a.y, b.x, b.y])?;
+    Ok((distance_squared(a, b), distance(a, b)))
 }

@@ -1,7 +1,7 @@
 // The lent slices before the start: samples marked and chained, caches reset, no cell flagged.
 #![tactic(auto)]
 
-ghost use Rattle.std.specs.Prelude.{◌≡◌, ℕ, ◌≤◌, ◌<◌, length, get_or};
+ghost use Rattle.std.specs.Prelude.{◌≡◌, ℕ, ◌+◌, ◌≤◌, ◌<◌, length, get_or};
 ghost use Rattle.rules.specs.Tools.{sum};
 ghost use Rattle.rules.specs.HandedOver.{Plate, contours_from};
 ghost use Rattle.rules.specs.SamplesAndCache.{waiting};
@@ -15,7 +15,9 @@ ghost use Rattle.prepare.specs.Framed.{PreparedBy, HoldsBy};
 ghost use Rattle.prepare.specs.Reset.{Reset};
 
 use layout::{Layout, clear};
+use rules::Vertex;
 use samples::{Frame, chain_samples, mark_samples};
+use start::Contour;
 
 // Marks the samples of all contours, in their part of the slice.
 fn mark_part(frame: &Frame<'_>, lengths: &[u32], work: &mut [u32])
@@ -29,7 +31,8 @@ fn mark_part(frame: &Frame<'_>, lengths: &[u32], work: &mut [u32])
     mark_samples(frame.points, lengths, &mut work[a..b], resolution);
 }
 
-// Each contour is infinitely far, and enters at its first vertex; it waits, unless it is empty.
+// Each contour is infinitely far, and enters at its first vertex; it waits, unless it is empty. `start::contours::Contours` passes over empty contours, and
+// their words are reset too.
 fn reset_caches(lengths: &[u32], distances: &mut [f64], work: &mut [u32], lay: Layout)
     requires { (Laid lay (length work.old)) × (lay.contours ≡ length lengths.now) × (lay.contours ≤ length distances.old)
         × (sum lengths.now ≤ 65536) }
@@ -63,4 +66,17 @@ pub fn prepare(frame: &Frame<'_>, lengths: &[u32], distances: &mut [f64], work: 
     mark_part(frame, lengths, &mut *work);
     reset_caches(lengths, &mut *distances, &mut *work, lay);
     chain_samples(frame, &mut *work);
+}
+
+// The contour of a number, which waits, as the slice holds it.
+pub fn waiting_contour(work: &[u32], lay: Layout, number: u32) -> Contour
+    requires { (Laid lay (length work.now)) × (number < lay.contours) × (1 ≤ from work.now lay.waiting number) }
+    ensures { (result.number ≡ number) × (result.first.0 ≡ from work.now lay.firsts number)
+        × (result.last + 1 ≡ from work.now lay.waiting number) }
+{
+    Contour {
+        number,
+        first: Vertex(work[lay.firsts + (number as usize)]),
+        last: work[lay.waiting + (number as usize)] - 1,
+    }
 }

@@ -1,18 +1,18 @@
 -- The remainder of two finite floats by their significands and exponents. Assumes nothing.
 use Rattle.std.specs.Prelude.{◌≡◌, refl, ◌⊎◌, ℕ, zero, suc, ◌+◌, ◌-◌, ◌*◌, ◌/◌, ◌%◌, ◌^◌, ◌≤◌, ◌<◌, Bool, true, false, not, T, ℤ, Float}
-use Rattle.std.proofs.Common.{sym, ap, ◌∙◌, subst, inl, inr, le_of_eq, lt_irrefl, lt_of_lt_of_le, le_trans, mul_assoc, mul_right_comm, mul-pos, mul-le-mul_right, mul-div_cancel, mod-eq_of_lt, arith, true≢false, lt→ltb, pow-add, pow_pos, pow_mono, shl_lt}
+use Rattle.std.proofs.Common.{sym, ap, ◌∙◌, subst, inl, inr, le_of_eq, lt_irrefl, lt_of_lt_of_le, le_trans, mul_assoc, mul_right_comm, mul-pos, mul-le-mul_right, mul-div_cancel, mod-eq_of_lt, arith, true≢false, pow-add, pow_pos, pow_mono, shl_lt}
 use Rattle.std.proofs.lemmas.Bool.{false≢true}
 use Rattle.std.proofs.Math.Nat.{mul-mod_left}
 use Rattle.std.proofs.Math.Dec.{eqb-suc-zero}
-use Rattle.std.proofs.Math.Arith.{mod-mul, le→nltb}
-use Rattle.std.specs.Float.{nan, inf, fin, binary64}
-use Rattle.std.specs.Float.Ieee.{up, down, rem, round, neg, eq, fits, of_bits, to_bits}
-use Rattle.std.specs.Float.Ieee.Bits.{of_bits-fits, is_true, is_false}
+use Rattle.std.proofs.Math.Arith.{mod-mul}
+use Rattle.std.specs.Float.{nan, inf, fin, binary64, is_sign_negative}
+use Rattle.std.specs.Float.Ieee.{up, down, rem, round, neg, is_nan, fits, of_bits}
+use Rattle.std.specs.Float.Ieee.Bits.{of_bits-fits}
 use Rattle.std.specs.Float.Ieee.Exact.{HasValue, round_exact}
 use Rattle.std.specs.Float.Ieee.Fits.{up_pos, down_pos, round-fits}
 use Rattle.std.specs.Float.Ieee.Positive.{first_pos}
 use Rattle.std.specs.Float.Ieee.Scale.{finite, round_same}
-use Rattle.rounding.specs.Magnitude.{IsMagnitude, non_negative, sign_bit, zero_magnitude}
+use Rattle.rounding.specs.Magnitude.{IsMagnitude, zero_magnitude}
 use Rattle.rounding.specs.StickyBit.{factor_zero}
 use Rattle.remainder.proofs.Signed.{neg_round, same_float}
 
@@ -127,7 +127,8 @@ signed_round true num den = neg_round binary64 num den
 signed_round false num den = refl
 
 by_digits : (t s : Float) (a i b j : ℕ) → T (finite t) → T (finite s) → IsMagnitude t a i → IsMagnitude s b j → 0 < b → j ≤ i
-    → signed (non_negative t) (round binary64 false (a * 2 ^ (i - j) % b * 2 ^ j) (2 ^ 1074)) ≡ rem binary64 t s
+    → signed (not (is_sign_negative t)) (round binary64 false (a * 2 ^ (i - j) % b * 2 ^ j) (2 ^ 1074)) ≡ rem binary64 t s
+unfolding is_sign_negative
 by_digits nan s a i b j f g A B P h = absurd f
 by_digits (inf v) s a i b j f g A B P h = absurd f
 by_digits (fin v m e) nan a i b j f g A B P h = absurd g
@@ -137,35 +138,34 @@ by_digits (fin v m e) (fin u n d) a i b j f g A B P h =
     ∙ ap (λ (x : ℕ). round binary64 v x (2 ^ 1074)) (sym (by_shift a i b j P h))
     ∙ sym (in_units v u m e n d a i b j A B P)
 
-module _ (t s : Float) (a i b j r : ℕ) (x : Float) (held : T (fits binary64 t)) (f : T (finite t)) (g : T (finite s)) (A : IsMagnitude t a i) (B : IsMagnitude s b j) (P : 0 < b) (h : j ≤ i)
+module _ (t s : Float) (a i b j r : ℕ) (x : Float) (f : T (finite t)) (g : T (finite s)) (A : IsMagnitude t a i) (B : IsMagnitude s b j) (P : 0 < b) (h : j ≤ i)
     (R : r ≡ a * 2 ^ (i - j) % b) (X : x ≡ round binary64 false (r * 2 ^ j) (2 ^ 1074)) where
-  answer : signed (non_negative t) x ≡ rem binary64 t s
-  answer = ap (λ (v : Float). signed (non_negative t) v) (X ∙ ap (λ (z : ℕ). round binary64 false (z * 2 ^ j) (2 ^ 1074)) R) ∙ by_digits t s a i b j f g A B P h
+  answer : signed (not (is_sign_negative t)) x ≡ rem binary64 t s
+  answer = ap (λ (v : Float). signed (not (is_sign_negative t)) v) (X ∙ ap (λ (z : ℕ). round binary64 false (z * 2 ^ j) (2 ^ 1074)) R) ∙ by_digits t s a i b j f g A B P h
 
-  pub answer_above : to_bits binary64 t < 9223372036854775808 → x ≡ rem binary64 t s
-  answer_above l = ap (λ (v : Bool). signed v x) (sym (sign_bit t held f ∙ is_true _ (lt→ltb _ _ l))) ∙ answer
+  pub answer_above : true ≡ not (is_sign_negative t) → x ≡ rem binary64 t s
+  answer_above l = ap (λ (v : Bool). signed v x) l ∙ answer
 
-  pub answer_below : 9223372036854775808 ≤ to_bits binary64 t → neg x ≡ rem binary64 t s
-  answer_below l = ap (λ (v : Bool). signed v x) (sym (sign_bit t held f ∙ is_false _ (le→nltb _ _ l))) ∙ answer
+  pub answer_below : false ≡ not (is_sign_negative t) → neg x ≡ rem binary64 t s
+  answer_below l = ap (λ (v : Bool). signed v x) l ∙ answer
 
 -- ---- what is not finite
 
-pub by_infinity : (t s : Float) → finite t ≡ true → finite s ≡ false → eq s s ≡ true → t ≡ rem binary64 t s
-unfolding rem eq
+pub by_infinity : (t s : Float) → finite t ≡ true → finite s ≡ false → is_nan s ≡ false → t ≡ rem binary64 t s
+unfolding rem is_nan
 by_infinity nan s f g h = absurd (false≢true f)
 by_infinity (inf v) s f g h = absurd (false≢true f)
-by_infinity (fin v m e) nan f g h = absurd (false≢true h)
+by_infinity (fin v m e) nan f g h = absurd (true≢false h)
 by_infinity (fin v m e) (inf u) f g h = refl
 by_infinity (fin v m e) (fin u n d) f g h = absurd (true≢false g)
 
-pub by_nan : (t s : Float) → finite s ≡ false → eq s s ≡ false → nan ≡ rem binary64 t s
-unfolding rem eq
-by_nan nan s g h = refl
-by_nan (inf v) s g h = refl
-by_nan (fin v m e) nan g h = refl
-by_nan (fin v m e) (inf true) g h = absurd (true≢false h)
-by_nan (fin v m e) (inf false) g h = absurd (true≢false h)
-by_nan (fin v m e) (fin u n d) g h = absurd (true≢false g)
+pub by_nan : (t s : Float) → is_nan s ≡ true → nan ≡ rem binary64 t s
+unfolding rem is_nan
+by_nan nan s h = refl
+by_nan (inf v) s h = refl
+by_nan (fin v m e) nan h = refl
+by_nan (fin v m e) (inf u) h = absurd (false≢true h)
+by_nan (fin v m e) (fin u n d) h = absurd (false≢true h)
 
 pub of_not_finite : (t s : Float) → finite t ≡ false → nan ≡ rem binary64 t s
 unfolding rem

@@ -14,8 +14,6 @@ const SPARE_DIGITS: u64 = 11;
 // One in the exponent's field.
 const FIELD_UNIT: u64 = 4503599627370496;
 
-const SIGN_BIT: u64 = 9223372036854775808;
-
 // n × 2^d mod m, as many digits at a time as fit: the loop counts digits, and no index.
 fn shifted_remainder(n: u64, d: u64, m: u64) -> u64
     requires { (n < 2 ^ 53) × (0 < m) × (m < 2 ^ 53) }
@@ -35,7 +33,7 @@ fn twos_taken(r: u64, e: u64) -> u64
     requires { (0 < r) × (r < 2 ^ 53) }
     ensures { (result ≤ e) × (r * 2 ^ result < 2 ^ 53) × ((result ≡ e) ⊎ (2 ^ 52 ≤ r * 2 ^ result)) }
 {
-    let room = r.leading_zeros() as u64 - SPARE_DIGITS;
+    let room = u64::from(r.leading_zeros()) - SPARE_DIGITS;
     room.min(e)
 }
 
@@ -59,31 +57,29 @@ fn finite_remainder(t: f64, s: f64) -> f64
     let a = magnitude_of(t);
     let b = magnitude_of(s);
     if b.significand == 0 {
-        return 0.0 / 0.0;
+        return f64::NAN;
     }
     if a.exponent < b.exponent {
         return t;
     }
     let r = shifted_remainder(a.significand, a.exponent - b.exponent, b.significand);
     let magnitude = float_of(r, b.exponent);
-    if t.to_bits() < SIGN_BIT {
+    if t.is_sign_positive() {
         magnitude
     } else {
         -magnitude
     }
 }
 
-// Rust's t % s, without the C library's fmod, which differs from system to system. Of what is not finite only a NaN differs from itself.
+// Rust's t % s, without the C library's fmod, which differs from system to system.
 pub fn remainder(t: f64, s: f64) -> f64
     ensures { result ≡ rem binary64 t s }
 {
-    if is_finite(t) {
-        if is_finite(s) {
-            return finite_remainder(t, s);
-        }
-        if s == s {
-            return t;
-        }
+    if !is_finite(t) {
+        return f64::NAN;
     }
-    0.0 / 0.0
+    if is_finite(s) {
+        return finite_remainder(t, s);
+    }
+    if s.is_nan() { f64::NAN } else { t }
 }

@@ -6,29 +6,25 @@ use rows::{Row, replay};
 use std::alloc::{AllocError, Global};
 use std::io;
 use twillharbor::twillharbor_distance;
-use words::{copy_words, words_differ};
+use words::Place;
 
 // A text of as many bytes, or more, is no list.
 const ROOM: usize = 262144;
 
 const MOST_ROWS: u64 = 1900;
 
-// As many words fit.
-const WORDS: usize = 15420;
-
-// The row at word i.
-fn row_at(_alloc: Global, text: &[u8], i: usize) -> Result<Option<Row>, AllocError> {
-    if WORDS < i {
-        return Ok(None);
-    }
-    let mut at = [0.0f64; 4];
-    copy_words(text, i, &mut at);
-    let r = twillharbor_distance(at[0], at[1], at[2], at[3]);
-    let agrees = words_differ(text, i + 4, &[r.number, r.place]) == 0
-        && words_differ(text, i + 6, &[r.squared, r.plain]) == 0;
-    Ok(Some(Row { agrees, end: i + 8 }))
+// The row that begins here.
+fn row_at(_alloc: Global, at: Place<'_>) -> Result<Option<Row<'_>>, AllocError> {
+    let mut points = [0.0f64; 4];
+    at.read_into(&mut points);
+    let [ax, ay, bx, by] = points;
+    let r = twillharbor_distance(ax, ay, bx, by);
+    let agrees = at.after(4).unlike(&[r.number, r.place]) == 0
+        && at.after(6).unlike(&[r.squared, r.plain]) == 0;
+    let end = at.after(8);
+    Ok(Some(Row { agrees, end }))
 }
 
 fn main(rt: HostRuntime) -> io::Result<()> {
-    replay(&rt, rt.alloc(), ROOM, MOST_ROWS, row_at)
+    replay(&rt, ROOM, MOST_ROWS, row_at)
 }

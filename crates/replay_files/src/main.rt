@@ -6,21 +6,16 @@
 // Prints how many rows there were and how many differed.
 #![tactic(auto)]
 
-ghost use Rattle.std.specs.Prelude.{◌≤◌};
-
 use rows::{Row, replay, sizes_at, words_at};
 use std::alloc::{AllocError, Global};
 use std::io;
 use twillharbor::{twillharbor_read_file, twillharbor_write_file};
-use words::{word_at, words_differ};
+use words::Place;
 
 // A text of as many bytes, or more, is no list.
 const ROOM: usize = 262144;
 
 const MOST_ROWS: u64 = 15420;
-
-// As many words fit.
-const WORDS: usize = 15420;
 
 // What a file slice holds in each byte when it is lent.
 const LENT: u8 = 165;
@@ -28,57 +23,48 @@ const LENT: u8 = 165;
 // Three blocks twice over.
 const TWICE: usize = 3072;
 
-// Byte k of the words from word i on: the first byte of a word is its two highest digits.
-fn byte_at(text: &[u8], i: usize, k: usize) -> u8
-    requires { i ≤ 20000 }
-{
-    word_at(text, i + k / 8).to_be_bytes()[k % 8]
+// Byte k of the words from this place on: the first byte of a word is its two highest digits.
+fn byte_at(at: Place<'_>, k: usize) -> u8 {
+    at.after(k / 8).read().to_be_bytes()[k % 8]
 }
 
-// Whether the bytes are those of the words from word i on.
-fn bytes_agree(text: &[u8], i: usize, bytes: &[u8]) -> bool
-    requires { i ≤ 20000 }
-{
-    for (k, &byte) in bytes.iter().enumerate() {
-        if byte != byte_at(text, i, k) {
-            return false;
+// Whether the bytes are those of the words from this place on.
+fn bytes_agree(at: Place<'_>, bytes: &[u8]) -> bool {
+    bytes
+        .iter()
+        .enumerate()
+        .all(|(k, &byte)| byte == byte_at(at, k))
+}
+
+// Where a file's words begin, and how many bytes it has.
+#[derive(Clone, Copy)]
+struct File<'a> {
+    words: Place<'a>,
+    bytes: usize,
+}
+
+impl<'a> File<'a> {
+    // The file twice over, or bytes that are as lent where it has none.
+    fn twice(self, alloc: Global) -> Result<Vec<u8>, AllocError> {
+        let mut bytes = vec![in alloc; LENT; TWICE]?;
+        if self.bytes == 0 {
+            return Ok(bytes);
         }
+        for (k, byte) in bytes.iter_mut().enumerate() {
+            *byte = byte_at(self.words, k % self.bytes);
+        }
+        Ok(bytes)
     }
-    true
 }
 
-// What is read from a file of `size` bytes, whose words begin at word i: the file twice over, or zeros where it has no byte.
-fn twice_over(alloc: Global, text: &[u8], i: usize, size: usize) -> Result<Vec<u8>, AllocError>
-    requires { i ≤ 20000 }
-{
-    let mut bytes = vec![in alloc; LENT; TWICE]?;
-    if size == 0 {
-        return Ok(bytes);
-    }
-    for (k, byte) in bytes.iter_mut().enumerate() {
-        *byte = byte_at(text, i, k % size);
-    }
-    Ok(bytes)
-}
-
-// Alters as many bytes as `count` says: those of the words from word i on, each a place times 256 and a value.
-fn alter(text: &[u8], i: usize, count: usize, bytes: &mut [u8])
-    requires i_bound { i ≤ 20000 }
-    requires count_bound { count ≤ 64 }
-{
+// Alters as many bytes as `count` says: those of the words from this place on, each a place times 256 and a value.
+fn alter(at: Place<'_>, count: usize, bytes: &mut [u8]) {
     for k in 0..count {
-        let w = word_at(text, i + k);
+        let w = at.after(k).read();
         if let Some(byte) = bytes.get_mut((w / 256) as usize) {
             *byte = (w % 256) as u8;
         }
     }
-}
-
-// Where a file stands in the text, and how many bytes it has.
-#[derive(Clone, Copy)]
-struct File {
-    word: usize,
-    bytes: usize,
 }
 
 // What is read: from where to where, into how long a slice, after how many bytes were altered.
@@ -90,43 +76,40 @@ struct Reading {
     altered: usize,
 }
 
-// A reading whose first word is word i. One with a size above its limit is broken, and what follows it cannot be read.
-fn sized_reading(
+// A reading that begins here. One with a size above its limit is broken, and what follows it cannot be read.
+fn sized_reading<'a>(
     alloc: Global,
-    text: &[u8],
-    i: usize,
-    file: File,
+    at: Place<'a>,
+    file: File<'_>,
     r: Reading,
-) -> Result<Option<Row>, AllocError>
-    requires i_bound { i ≤ 15420 }
-    requires word_bound { file.word ≤ 20000 }
-{
+) -> Result<Option<Row<'a>>, AllocError> {
     if TWICE < r.to || r.to < r.from || 192 < r.room || 64 < r.altered {
         return Ok(None);
     }
-    let then = i + 7 + r.altered;
-    let mut bytes = twice_over(alloc, text, file.word, file.bytes)?;
-    alter(text, i + 7, r.altered, bytes.as_mut_slice());
+    let alterations = at.after(7);
+    let then = alterations.after(r.altered);
+    let mut bytes = file.twice(alloc)?;
+    alter(alterations, r.altered, bytes.as_mut_slice());
     let mut path = vec![in alloc; 100.0f64; r.room]?;
-    let read = match bytes.as_slice().get(r.from..r.to) {
-        Some(part) => twillharbor_read_file(part, path.as_mut_slice()),
-        None => return Ok(None),
+    let Some(part) = bytes.as_slice().get(r.from..r.to) else {
+        return Ok(None);
     };
-    let same = words_differ(text, then, path.as_slice()) == 0;
+    let read = twillharbor_read_file(part, path.as_mut_slice());
+    let same = then.unlike(path.as_slice()) == 0;
+    let numbers = [read.number, read.place, read.points];
     Ok(Some(Row {
-        agrees: words_differ(text, i + 4, &[read.number, read.place, read.points]) == 0 && same,
-        end: then + r.room,
+        agrees: at.after(4).unlike(&numbers) == 0 && same,
+        end: then.after(r.room),
     }))
 }
 
-// The reading at word i.
-fn reading_at(alloc: Global, text: &[u8], i: usize, file: File) -> Result<Option<Row>, AllocError>
-    requires { file.word ≤ 20000 }
-{
-    if WORDS < i {
-        return Ok(None);
-    }
-    let Some(sizes) = sizes_at::<4>(text, i) else {
+// The reading that begins here.
+fn reading_at<'a>(
+    alloc: Global,
+    at: Place<'a>,
+    file: File<'_>,
+) -> Result<Option<Row<'a>>, AllocError> {
+    let Some(sizes) = sizes_at::<4>(at) else {
         return Ok(None);
     };
     let [from, to, room, altered] = sizes;
@@ -136,22 +119,19 @@ fn reading_at(alloc: Global, text: &[u8], i: usize, file: File) -> Result<Option
         room: room as usize,
         altered: altered as usize,
     };
-    sized_reading(alloc, text, i, file, r)
+    sized_reading(alloc, at, file, r)
 }
 
 // The readings of a file, the first at the end of `row`: whether all agree, and the row before them.
-fn readings_at(
+fn readings_at<'a>(
     alloc: Global,
-    text: &[u8],
-    file: File,
+    row: Row<'a>,
+    file: File<'_>,
     readings: u32,
-    row: Row,
-) -> Result<Option<Row>, AllocError>
-    requires { file.word ≤ 20000 }
-{
+) -> Result<Option<Row<'a>>, AllocError> {
     let mut whole = row;
     for _reading in 0..readings {
-        let Some(reading) = reading_at(alloc, text, whole.end, file)? else {
+        let Some(reading) = reading_at(alloc, whole.end, file)? else {
             return Ok(None);
         };
         whole = Row {
@@ -171,35 +151,30 @@ struct Sizes {
     readings: u32,
 }
 
-// A row whose first word is word i: the write call, then the readings.
-fn sized_row(alloc: Global, text: &[u8], i: usize, s: Sizes) -> Result<Option<Row>, AllocError>
-    requires { i ≤ 15420 }
-{
+// A row that begins here: the write call, then the readings.
+fn sized_row<'a>(alloc: Global, at: Place<'a>, s: Sizes) -> Result<Option<Row<'a>>, AllocError> {
     if 128 < s.path || 1600 < s.room {
         return Ok(None);
     }
-    let word = i + 6 + s.path;
-    let path = words_at(alloc, text, i + 6, s.path)?;
+    let words = at.after(6).after(s.path);
+    let path = words_at(alloc, at.after(6), s.path)?;
     let mut file = vec![in alloc; LENT; s.room]?;
     let r = twillharbor_write_file(path.as_slice(), file.as_mut_slice());
-    let same = bytes_agree(text, word, file.as_slice());
+    let same = bytes_agree(words, file.as_slice());
     let row = Row {
-        agrees: words_differ(text, i + 2, &[r.number, r.place, r.bytes]) == 0 && same,
-        end: word + s.room.div_ceil(8),
+        agrees: at.after(2).unlike(&[r.number, r.place, r.bytes]) == 0 && same,
+        end: words.after(s.room.div_ceil(8)),
     };
     let written = File {
-        word,
+        words,
         bytes: s.bytes,
     };
-    readings_at(alloc, text, written, s.readings, row)
+    readings_at(alloc, row, written, s.readings)
 }
 
-// The row at word i.
-fn row_at(alloc: Global, text: &[u8], i: usize) -> Result<Option<Row>, AllocError> {
-    if WORDS < i {
-        return Ok(None);
-    }
-    let Some(sizes) = sizes_at::<6>(text, i) else {
+// The row that begins here.
+fn row_at(alloc: Global, at: Place<'_>) -> Result<Option<Row<'_>>, AllocError> {
+    let Some(sizes) = sizes_at::<6>(at) else {
         return Ok(None);
     };
     let [path, room, _, _, bytes, readings] = sizes;
@@ -209,9 +184,9 @@ fn row_at(alloc: Global, text: &[u8], i: usize) -> Result<Option<Row>, AllocErro
         bytes: bytes as usize,
         readings,
     };
-    sized_row(alloc, text, i, handed)
+    sized_row(alloc, at, handed)
 }
 
 fn main(rt: HostRuntime) -> io::Result<()> {
-    replay(&rt, rt.alloc(), ROOM, MOST_ROWS, row_at)
+    replay(&rt, ROOM, MOST_ROWS, row_at)
 }

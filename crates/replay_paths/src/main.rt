@@ -3,21 +3,16 @@
 // lengths, the path and the marks, and then the call's number and its place. Prints how many rows there were and how many differed.
 #![tactic(auto)]
 
-ghost use Rattle.std.specs.Prelude.{◌≤◌};
-
 use rows::{Row, replay, sizes_at, words_at};
 use std::alloc::{AllocError, Global};
 use std::io;
 use twillharbor::twillharbor_check_path;
-use words::{word_at, words_differ};
+use words::Place;
 
 // A text of as many bytes, or more, is no list.
 const ROOM: usize = 262144;
 
 const MOST_ROWS: u64 = 15420;
-
-// As many words fit.
-const WORDS: usize = 15420;
 
 // What the call answers: number and place.
 const NUMBERS: usize = 2;
@@ -48,11 +43,9 @@ struct Plate {
 }
 
 impl Plate {
-    // The call's number and place stand at word i. Where it refuses, but for a path that does not draw the plate, the work slice stays as
-    // it was lent.
-    fn agrees(&self, alloc: Global, text: &[u8], i: usize, work: usize) -> Result<bool, AllocError>
-        requires { i ≤ 24000 }
-    {
+    // The call's number and place stand here. Where it refuses, but for a path that does not draw the plate, the work slice stays as it was
+    // lent.
+    fn agrees(&self, alloc: Global, at: Place<'_>, work: usize) -> Result<bool, AllocError> {
         let mut lent = vec![in alloc; LENT; work]?;
         let r = twillharbor_check_path(
             self.points.as_slice(),
@@ -63,43 +56,42 @@ impl Plate {
         );
         let free = r.number == 0 || r.number == NOT_DRAWN;
         let kept = lent.iter().all(|&n| n == LENT);
-        let same = u64::from(r.number) == word_at(text, i) && r.place == word_at(text, i + 1);
+        let same = u64::from(r.number) == at.read() && r.place == at.after(1).read();
         Ok(same && (free || kept))
     }
 }
 
-// A row whose coordinates start at word i. A length or a mark that is no u32 differs; one with a size above its limit is broken.
-fn sized_row(alloc: Global, text: &[u8], i: usize, s: Sizes) -> Result<Option<Row>, AllocError>
-    requires { i ≤ 15430 }
-{
+// A row whose coordinates start here. A length or a mark that is no u32 differs; one with a size above its limit is broken.
+fn sized_row<'a>(
+    alloc: Global,
+    points: Place<'a>,
+    s: Sizes,
+) -> Result<Option<Row<'a>>, AllocError> {
     if 64 < s.points || 16 < s.lengths || 128 < s.path || 128 < s.marks || 64 < s.work {
         return Ok(None);
     }
-    let j = i + s.points;
-    let k = j + s.lengths;
-    let l = k + s.path;
-    let answer = l + s.marks;
+    let lengths = points.after(s.points);
+    let path = lengths.after(s.lengths);
+    let marks = path.after(s.path);
+    let answer = marks.after(s.marks);
     let plate = Plate {
-        points: words_at(alloc, text, i, s.points)?,
-        lengths: words_at(alloc, text, j, s.lengths)?,
-        path: words_at(alloc, text, k, s.path)?,
-        marks: words_at(alloc, text, l, s.marks)?,
+        points: words_at(alloc, points, s.points)?,
+        lengths: words_at(alloc, lengths, s.lengths)?,
+        path: words_at(alloc, path, s.path)?,
+        marks: words_at(alloc, marks, s.marks)?,
     };
-    let fit = words_differ(text, j, plate.lengths.as_slice()) == 0
-        && words_differ(text, l, plate.marks.as_slice()) == 0;
-    let agrees = plate.agrees(alloc, text, answer, s.work)?;
+    let fit = lengths.unlike(plate.lengths.as_slice()) == 0
+        && marks.unlike(plate.marks.as_slice()) == 0;
+    let agrees = plate.agrees(alloc, answer, s.work)?;
     Ok(Some(Row {
         agrees: fit && agrees,
-        end: answer + NUMBERS,
+        end: answer.after(NUMBERS),
     }))
 }
 
-// The row at word i.
-fn row_at(alloc: Global, text: &[u8], i: usize) -> Result<Option<Row>, AllocError> {
-    if WORDS < i {
-        return Ok(None);
-    }
-    let Some(sizes) = sizes_at::<5>(text, i) else {
+// The row that begins here.
+fn row_at(alloc: Global, at: Place<'_>) -> Result<Option<Row<'_>>, AllocError> {
+    let Some(sizes) = sizes_at::<5>(at) else {
         return Ok(None);
     };
     let [points, lengths, path, marks, work] = sizes;
@@ -110,9 +102,9 @@ fn row_at(alloc: Global, text: &[u8], i: usize) -> Result<Option<Row>, AllocErro
         marks: marks as usize,
         work: work as usize,
     };
-    sized_row(alloc, text, i + 5, handed)
+    sized_row(alloc, at.after(5), handed)
 }
 
 fn main(rt: HostRuntime) -> io::Result<()> {
-    replay(&rt, rt.alloc(), ROOM, MOST_ROWS, row_at)
+    replay(&rt, ROOM, MOST_ROWS, row_at)
 }

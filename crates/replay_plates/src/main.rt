@@ -5,8 +5,6 @@
 // there were and how many differed.
 #![tactic(auto)]
 
-ghost use Rattle.std.specs.Prelude.{◌≤◌};
-
 use rows::{Parts, Plate, Row, Start, plate_at, replay, sizes_at, start_at};
 use std::alloc::{AllocError, Global};
 use std::io;
@@ -14,15 +12,12 @@ use twillharbor::{
     twillharbor_order, twillharbor_order_home, twillharbor_start, twillharbor_start_home,
     twillharbor_straight, twillharbor_straight_home,
 };
-use words::words_differ;
+use words::Place;
 
 // A text of as many bytes, or more, is no list.
 const ROOM: usize = 393216;
 
 const MOST_ROWS: u64 = 23130;
-
-// As many words fit.
-const WORDS: usize = 23130;
 
 // The lengths of a row's slices.
 #[derive(Clone, Copy)]
@@ -43,8 +38,8 @@ struct Recorded {
 }
 
 impl Recorded {
-    // The start call's numbers stand at word i.
-    fn start_agrees(&self, text: &[u8], i: usize) -> bool {
+    // The start call's numbers stand here.
+    fn start_agrees(&self, at: Place<'_>) -> bool {
         let (points, lengths, layers) = self.plate.slices();
         let r = match self.plate.start {
             Start::Centre {
@@ -54,13 +49,11 @@ impl Recorded {
             } => twillharbor_start(points, lengths, layers, width, height, inside),
             Start::Home { x, y } => twillharbor_start_home(points, lengths, layers, x, y),
         };
-        words_differ(text, i, &[r.number, r.place, r.contour, r.reversed]) == 0
+        at.unlike(&[r.number, r.place, r.contour, r.reversed]) == 0
     }
 
-    // The order call's numbers and entries stand at word i. The entries lent are 0xa5a5a5a5.
-    fn order_agrees(&self, alloc: Global, text: &[u8], i: usize) -> Result<bool, AllocError>
-        requires { i ≤ 24000 }
-    {
+    // The order call's numbers and entries stand here. The entries lent are 0xa5a5a5a5.
+    fn order_agrees(&self, alloc: Global, at: Place<'_>) -> Result<bool, AllocError> {
         let (points, lengths, layers) = self.plate.slices();
         let mut entries = vec![in alloc; 2779096485u32; self.sizes.order]?;
         let mut work = vec![in alloc; 7u32; self.sizes.work]?;
@@ -75,14 +68,12 @@ impl Recorded {
                 twillharbor_order_home(points, lengths, layers, x, y, order, lent)
             }
         };
-        let same = words_differ(text, i + 3, entries.as_slice()) == 0;
-        Ok(words_differ(text, i, &[r.number, r.place, r.entries]) == 0 && same)
+        let same = at.after(3).unlike(entries.as_slice()) == 0;
+        Ok(at.unlike(&[r.number, r.place, r.entries]) == 0 && same)
     }
 
-    // The straight call's numbers and path stand at word i. Every element of the path lent is 100.
-    fn straight_agrees(&self, alloc: Global, text: &[u8], i: usize) -> Result<bool, AllocError>
-        requires { i ≤ 24000 }
-    {
+    // The straight call's numbers and path stand here. Every element of the path lent is 100.
+    fn straight_agrees(&self, alloc: Global, at: Place<'_>) -> Result<bool, AllocError> {
         let (points, lengths, layers) = self.plate.slices();
         let mut path = vec![in alloc; 100.0f64; self.sizes.path]?;
         let mut work = vec![in alloc; 9u32; self.sizes.work]?;
@@ -97,21 +88,18 @@ impl Recorded {
                 twillharbor_straight_home(points, lengths, layers, x, y, part, lent)
             }
         };
-        let same = words_differ(text, i + 3, path.as_slice()) == 0;
-        Ok(words_differ(text, i, &[r.number, r.place, r.points]) == 0 && same)
+        let same = at.after(3).unlike(path.as_slice()) == 0;
+        Ok(at.unlike(&[r.number, r.place, r.points]) == 0 && same)
     }
 }
 
-// A row whose coordinates start at word i. A length or a layer that is no u32 differs; one with a size above its limit is broken.
-fn sized_row(
+// A row whose coordinates start here. A length or a layer that is no u32 differs; one with a size above its limit is broken.
+fn sized_row<'a>(
     alloc: Global,
-    text: &[u8],
-    i: usize,
+    at: Place<'a>,
     start: Start,
     s: Sizes,
-) -> Result<Option<Row>, AllocError>
-    requires { i ≤ 23141 }
-{
+) -> Result<Option<Row<'a>>, AllocError> {
     if 40 < s.points
         || 12 < s.lengths
         || 16 < s.layers
@@ -121,33 +109,32 @@ fn sized_row(
     {
         return Ok(None);
     }
-    let lengths = i + s.points;
-    let layers = lengths + s.lengths;
-    let answers = layers + s.layers;
-    let at = Parts {
-        points: i,
+    let lengths = at.after(s.points);
+    let layers = lengths.after(s.lengths);
+    let answers = layers.after(s.layers);
+    let parts = Parts {
+        points: at,
         lengths,
         layers,
         end: answers,
     };
-    let plate = plate_at(alloc, text, at, start)?;
+    let plate = plate_at(alloc, parts, start)?;
     let fit = plate.fits;
     let recorded = Recorded { plate, sizes: s };
-    let started = recorded.start_agrees(text, answers);
-    let order = recorded.order_agrees(alloc, text, answers + 4)?;
-    let straight = recorded.straight_agrees(alloc, text, answers + 7 + s.order)?;
+    let orders = answers.after(4);
+    let lines = orders.after(3).after(s.order);
+    let started = recorded.start_agrees(answers);
+    let order = recorded.order_agrees(alloc, orders)?;
+    let straight = recorded.straight_agrees(alloc, lines)?;
     Ok(Some(Row {
         agrees: fit && started && order && straight,
-        end: answers + s.order + s.path + 10,
+        end: lines.after(3).after(s.path),
     }))
 }
 
-// The row at word i.
-fn row_at(alloc: Global, text: &[u8], i: usize) -> Result<Option<Row>, AllocError> {
-    if WORDS < i {
-        return Ok(None);
-    }
-    let Some(sizes) = sizes_at::<9>(text, i) else {
+// The row that begins here.
+fn row_at(alloc: Global, at: Place<'_>) -> Result<Option<Row<'_>>, AllocError> {
+    let Some(sizes) = sizes_at::<9>(at) else {
         return Ok(None);
     };
     let [
@@ -161,7 +148,7 @@ fn row_at(alloc: Global, text: &[u8], i: usize) -> Result<Option<Row>, AllocErro
         path,
         work,
     ] = sizes;
-    let Some(start) = start_at(text, i + 9, width, height, strategy) else {
+    let Some(start) = start_at(at.after(9), width, height, strategy) else {
         return Ok(None);
     };
     let handed = Sizes {
@@ -172,9 +159,9 @@ fn row_at(alloc: Global, text: &[u8], i: usize) -> Result<Option<Row>, AllocErro
         path: path as usize,
         work: work as usize,
     };
-    sized_row(alloc, text, i + 11, start, handed)
+    sized_row(alloc, at.after(11), start, handed)
 }
 
 fn main(rt: HostRuntime) -> io::Result<()> {
-    replay(&rt, rt.alloc(), ROOM, MOST_ROWS, row_at)
+    replay(&rt, ROOM, MOST_ROWS, row_at)
 }

@@ -5,22 +5,17 @@
 // were and how many differed.
 #![tactic(auto)]
 
-ghost use Rattle.std.specs.Prelude.{◌≡◌, false, ◌≤◌};
-
 use results::RetraceResult;
 use rows::{Parts, Plate, Row, Start, plate_at, replay, sizes_at, start_at};
 use std::alloc::{AllocError, Global};
 use std::io;
 use twillharbor::{twillharbor_retrace, twillharbor_retrace_home};
-use words::words_differ;
+use words::Place;
 
 // A text of as many bytes, or more, is no list.
 const ROOM: usize = 393216;
 
 const MOST_ROWS: u64 = 23130;
-
-// As many words fit.
-const WORDS: usize = 23130;
 
 // What the call answers: number, place, points, cuts, back-steps, jumps and touches.
 const NUMBERS: usize = 7;
@@ -37,50 +32,62 @@ struct Sizes {
     distances: usize,
 }
 
-fn retraced(
-    plate: &Plate,
-    path: &mut [f64],
-    marks: &mut [u32],
-    work: &mut [u32],
-    distances: &mut [f64],
-) -> RetraceResult {
-    let (points, lengths, layers) = plate.slices();
-    match plate.start {
-        Start::Centre {
-            width,
-            height,
-            inside,
-        } => twillharbor_retrace(
-            points, lengths, layers, width, height, inside, path, marks, work, distances,
-        ),
-        Start::Home { x, y } => twillharbor_retrace_home(
-            points, lengths, layers, x, y, path, marks, work, distances,
-        ),
+impl Sizes {
+    // Whether one is above its limit.
+    fn are_too_large(self) -> bool {
+        40 < self.points
+            || 12 < self.lengths
+            || 16 < self.layers
+            || 128 < self.path
+            || 128 < self.marks
+            || 16640 < self.work
+            || 16 < self.distances
     }
 }
 
-// The call's numbers, path and marks stand at word i. Every element of the path lent is 100, and every mark 0xa5a5a5a5.
-fn call_agrees(
-    alloc: Global,
-    text: &[u8],
-    i: usize,
-    plate: &Plate,
-    s: Sizes,
-) -> Result<bool, AllocError>
-    requires i_bound { i ≤ 23500 }
-    requires path_bound { s.path ≤ 128 }
-{
-    let mut path = vec![in alloc; 100.0f64; s.path]?;
-    let mut marks = vec![in alloc; 2779096485u32; s.marks]?;
-    let mut work = vec![in alloc; 7u32; s.work]?;
-    let mut distances = vec![in alloc; 9.0f64; s.distances]?;
-    let r = retraced(
-        plate,
-        path.as_mut_slice(),
-        marks.as_mut_slice(),
-        work.as_mut_slice(),
-        distances.as_mut_slice(),
-    );
+// The slices that the call is lent.
+#[derive(Drop)]
+struct Lent {
+    path: Vec<f64>,
+    marks: Vec<u32>,
+    work: Vec<u32>,
+    distances: Vec<f64>,
+}
+
+impl Lent {
+    // Every element of the path is 100, and every mark 0xa5a5a5a5.
+    fn new(alloc: Global, s: Sizes) -> Result<Lent, AllocError> {
+        Ok(Lent {
+            path: vec![in alloc; 100.0f64; s.path]?,
+            marks: vec![in alloc; 2779096485u32; s.marks]?,
+            work: vec![in alloc; 7u32; s.work]?,
+            distances: vec![in alloc; 9.0f64; s.distances]?,
+        })
+    }
+
+    fn retrace(&mut self, plate: &Plate) -> RetraceResult {
+        let (points, lengths, layers) = plate.slices();
+        let (path, marks) = (self.path.as_mut_slice(), self.marks.as_mut_slice());
+        let (work, distances) = (self.work.as_mut_slice(), self.distances.as_mut_slice());
+        match plate.start {
+            Start::Centre {
+                width,
+                height,
+                inside,
+            } => twillharbor_retrace(
+                points, lengths, layers, width, height, inside, path, marks, work, distances,
+            ),
+            Start::Home { x, y } => twillharbor_retrace_home(
+                points, lengths, layers, x, y, path, marks, work, distances,
+            ),
+        }
+    }
+}
+
+// The call's numbers, path and marks stand here.
+fn call_agrees(alloc: Global, at: Place<'_>, plate: &Plate, s: Sizes) -> Result<bool, AllocError> {
+    let mut lent = Lent::new(alloc, s)?;
+    let r = lent.retrace(plate);
     let numbers = [
         r.number,
         r.place,
@@ -90,60 +97,45 @@ fn call_agrees(
         r.jumps,
         r.touches,
     ];
-    let written = words_differ(text, i + NUMBERS, path.as_slice()) == 0
-        && words_differ(text, i + NUMBERS + s.path, marks.as_slice()) == 0;
-    Ok(words_differ(text, i, &numbers) == 0 && written)
+    let path = at.after(NUMBERS);
+    let marks = path.after(s.path);
+    Ok(
+        at.unlike(&numbers) == 0
+            && path.unlike(lent.path.as_slice()) == 0
+            && marks.unlike(lent.marks.as_slice()) == 0,
+    )
 }
 
-// Whether a row with such sizes is broken.
-fn is_broken(s: Sizes) -> bool
-    ensures { result ≡ false → (s.points ≤ 40) × (s.lengths ≤ 12) × (s.layers ≤ 16) × (s.path ≤ 128) × (s.marks ≤ 128) }
-{
-    40 < s.points
-        || 12 < s.lengths
-        || 16 < s.layers
-        || 128 < s.path
-        || 128 < s.marks
-        || 16640 < s.work
-        || 16 < s.distances
-}
-
-// A row whose coordinates start at word i. A length or a layer that is no u32 differs; one with a size above its limit is broken.
-fn sized_row(
+// A row whose coordinates start here. A length or a layer that is no u32 differs; one with a size above its limit is broken.
+fn sized_row<'a>(
     alloc: Global,
-    text: &[u8],
-    i: usize,
+    at: Place<'a>,
     start: Start,
     s: Sizes,
-) -> Result<Option<Row>, AllocError>
-    requires { i ≤ 23142 }
-{
-    if is_broken(s) {
+) -> Result<Option<Row<'a>>, AllocError> {
+    if s.are_too_large() {
         return Ok(None);
     }
-    let lengths = i + s.points;
-    let layers = lengths + s.lengths;
-    let answers = layers + s.layers;
-    let at = Parts {
-        points: i,
+    let lengths = at.after(s.points);
+    let layers = lengths.after(s.lengths);
+    let answers = layers.after(s.layers);
+    let parts = Parts {
+        points: at,
         lengths,
         layers,
         end: answers,
     };
-    let plate = plate_at(alloc, text, at, start)?;
-    let agrees = call_agrees(alloc, text, answers, &plate, s)?;
+    let plate = plate_at(alloc, parts, start)?;
+    let agrees = call_agrees(alloc, answers, &plate, s)?;
     Ok(Some(Row {
         agrees: plate.fits && agrees,
-        end: answers + s.path + s.marks + NUMBERS,
+        end: answers.after(NUMBERS).after(s.path).after(s.marks),
     }))
 }
 
-// The row at word i.
-fn row_at(alloc: Global, text: &[u8], i: usize) -> Result<Option<Row>, AllocError> {
-    if WORDS < i {
-        return Ok(None);
-    }
-    let Some(sizes) = sizes_at::<10>(text, i) else {
+// The row that begins here.
+fn row_at(alloc: Global, at: Place<'_>) -> Result<Option<Row<'_>>, AllocError> {
+    let Some(sizes) = sizes_at::<10>(at) else {
         return Ok(None);
     };
     let [
@@ -158,7 +150,7 @@ fn row_at(alloc: Global, text: &[u8], i: usize) -> Result<Option<Row>, AllocErro
         work,
         distances,
     ] = sizes;
-    let Some(start) = start_at(text, i + 10, width, height, strategy) else {
+    let Some(start) = start_at(at.after(10), width, height, strategy) else {
         return Ok(None);
     };
     let handed = Sizes {
@@ -170,9 +162,9 @@ fn row_at(alloc: Global, text: &[u8], i: usize) -> Result<Option<Row>, AllocErro
         work: work as usize,
         distances: distances as usize,
     };
-    sized_row(alloc, text, i + 12, start, handed)
+    sized_row(alloc, at.after(12), start, handed)
 }
 
 fn main(rt: HostRuntime) -> io::Result<()> {
-    replay(&rt, rt.alloc(), ROOM, MOST_ROWS, row_at)
+    replay(&rt, ROOM, MOST_ROWS, row_at)
 }

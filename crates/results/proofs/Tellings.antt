@@ -2,7 +2,7 @@
 use Rattle.std.proofs.Common.{◌≡◌, refl, ℕ, Bool, true, false}
 use Rattle.std.specs.Prelude.{pos, Float}
 use Rattle.std.specs.Float.{fin}
-use mir.Val.{bool_byte}
+use Rattle.std.specs.Int.{from_bool}
 use Rattle.rules.specs.Tools.{pick}
 use Rattle.rules.specs.HandedOver.{Answer, gives, refuses}
 use Rattle.rules.specs.declared.Counts.{Counts}
@@ -35,21 +35,21 @@ unfolding told distance_result
 distance_told (gives d) = refl
 distance_told (refuses n k) = refl
 
-byte : (b : Bool) → bool_byte b ≡ pick b 1 0
+number_is : (b : Bool) → from_bool b ≡ pick b 1 0
 unfolding pick
-byte true = refl
-byte false = refl
+number_is true = refl
+number_is false = refl
 
 pub start_told :
     (a : Answer (ℕ × Bool)) →
-    let t = told a (0, false) in record { number = t.0; place = t.1; contour = t.2.0; reversed = bool_byte t.2.1 } ≡ start_result a
+    let t = told a (0, false) in record { number = t.0; place = t.1; contour = t.2.0; reversed = from_bool t.2.1 } ≡ start_result a
 unfolding told start_result
-start_told (gives s) = rw byte refl
+start_told (gives s) = rw number_is refl
 start_told (refuses n k) = refl
 
 pub retrace_told :
-    (a : Answer Counts) →
-    let t = told a (record { points = 0; cuts = 0; back_steps = 0; jumps = 0; touches = 0 }) in
+    (a : Answer Counts) (z : Counts) → (z.points ≡ 0) × ((z.cuts ≡ 0) × ((z.back_steps ≡ 0) × ((z.jumps ≡ 0) × (z.touches ≡ 0)))) →
+    let t = told a z in
     record {
       number = t.0;
       place = t.1;
@@ -60,5 +60,6 @@ pub retrace_told :
       touches = t.2.touches;
     } ≡ retrace_result a
 unfolding told retrace_result
-retrace_told (gives c) = refl
-retrace_told (refuses n k) = refl
+retrace_told (gives c) z e = refl
+retrace_told (refuses n k) z e =
+    λ i. record { number = n; place = k; points = e.0 i; cuts = e.1.0 i; back_steps = e.1.1.0 i; jumps = e.1.1.1.0 i; touches = e.1.1.1.1 i }

@@ -30,7 +30,9 @@ fn numbers_of(r: Refusal) -> (u32, u32)
     }
 }
 
-// The number and place of an answer, and what it carries: of a refusal, `zeros`. (No `From` below: it can require nothing, and `check_result` is as the others.)
+// The number and place of an answer, and what it carries: of a refusal, `zeros`. No `T: Default` in their place: its clause tells what holds of a default, and
+// not which value it is, and so the callers would have to show that it is 0. (No `From` below: it can require nothing, and `check_result` is as the others.)
+#[tactic(auto, using(crate::specs::Refusals::of_other), unfolding(crate::specs::Results::told, rules::specs::HandedOver::answer_of))]
 fn told<T: Copy>(answer: Result<T, Refusal>, zeros: T) -> (u32, u32, T)
     requires { Other 12 (answer_of answer) }
     ensures { result ≡ told (answer_of answer) zeros }
@@ -84,7 +86,7 @@ pub fn start_result(answer: Result<(u32, bool), Refusal>) -> StartResult
         number,
         place,
         contour,
-        reversed: reversed as u32,
+        reversed: u32::from(reversed),
     }
 }
 
@@ -143,20 +145,12 @@ pub struct RetraceResult {
     pub touches: u32,
 }
 
-const NO_COUNTS: Counts = Counts {
-    points: 0,
-    cuts: 0,
-    back_steps: 0,
-    jumps: 0,
-    touches: 0,
-};
-
 #[tactic(auto, using(crate::proofs::Tellings::retrace_told))]
 pub fn retrace_result(answer: Result<Counts, Refusal>) -> RetraceResult
     requires { Other 12 (answer_of answer) }
     ensures { result ≡ retrace_result (answer_of answer) }
 {
-    let (number, place, counts) = told(answer, NO_COUNTS);
+    let (number, place, counts) = told(answer, Counts::default());
     RetraceResult {
         number,
         place,
@@ -175,6 +169,7 @@ pub struct CheckResult {
     pub place: u64,
 }
 
+#[tactic(auto, using(path::specs::Rows::refused), unfolding(crate::specs::Results::check_result, rules::specs::HandedOver::answer_of, rules::specs::HandedOver::number_of, rules::specs::HandedOver::place_of, rules::specs::HandedOver::refusal))]
 pub fn check_result(answer: Result<(), Refusal>) -> CheckResult
     ensures { result ≡ check_result (answer_of answer) }
 {
@@ -188,7 +183,7 @@ pub fn check_result(answer: Result<(), Refusal>) -> CheckResult
             let (number, place) = numbers_of(r);
             CheckResult {
                 number,
-                place: place as u64,
+                place: u64::from(place),
             }
         }
     }

@@ -43,14 +43,8 @@ pub record Counted (kind : ℕ) (ms left : List ℕ) (count : ℕ) : Type 0 wher
   pub is : marks_of kind ms ≡ count + marks_of kind left
   pub most : 2 * count + length left ≤ length ms
 
-pub counted_none : (kind : ℕ) (ms left : List ℕ) → left ≡ ms → Counted kind ms left 0
-counted_none kind ms left e = rw e (record { is = omega arith; most = omega arith })
-
 module _ (kind : ℕ) (ms left mark left' : List ℕ) (count one : ℕ) (e : left ≡ mark ++ left') (n : length mark ≡ 2) (h : Counted kind ms left count)
     (is_one : one ≡ pick (eqb (get_or mark 0 0) kind) 1 0) where
-  pub counted_fits : 2 * (count + one) ≤ length ms
-  counted_fits = omega (arith, h.most, one_most (eqb (get_or mark 0 0) kind), ap length e, length-append mark left')
-
   pub counted_more : Counted kind ms left' (count + one)
   counted_more =
       record {

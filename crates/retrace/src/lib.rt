@@ -47,6 +47,7 @@ fn count_marks(marks: &[u32], n: u32) -> Counts
 
 // How long the u32 work slice has to be for a path of at most `room` points. That the coordinates are f64 numbers is told here, where they are a slice
 // parameter: of a field it is not known.
+#[tactic(auto, unfolding(rules::specs::HandedOver::AllF64))]
 fn work_needed(points: &[f64], lengths: &[u32], room: usize) -> usize
     requires { (length points.now ≤ 131072) × (length lengths.now ≤ 4096) × (room ≤ 1048576) }
     ensures needed { result ≡ room + 2 * length points.now + 8 * length lengths.now + 16384 }
@@ -84,8 +85,7 @@ pub fn retrace_call(
         return Err(Refusal::WorkShort(1));
     }
     let c = room as u32;
-    match join_retrace(&checked, c, path, &mut *marks, work, distances) {
-        Ok(n) => Ok(count_marks(&*marks, n)),
-        Err(_) => Err(Refusal::Full(c)),
-    }
+    let full = Refusal::Full(c);
+    let n = join_retrace(&checked, c, path, &mut *marks, work, distances).or(Err(full))?;
+    Ok(count_marks(&*marks, n))
 }

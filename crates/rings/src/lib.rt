@@ -45,7 +45,7 @@ fn ring_bound(g: SpatialGrid, ring: u32) -> f64
     requires { 2 ≤ ring }
     ensures { result ≡ rules-nearest.bound g ring }
 {
-    let distance = ((ring - 1) as f64) * g.cell_size;
+    let distance = f64::from(ring - 1) * g.cell_size;
     distance * distance
 }
 
@@ -56,8 +56,5 @@ pub fn is_past_best(g: SpatialGrid, ring: u32, best: Nearest) -> bool
     let Nearest::Found(_, least) = best else {
         return false;
     };
-    if ring < 2 {
-        return false;
-    }
-    least < ring_bound(g, ring)
+    2 <= ring && least < ring_bound(g, ring)
 }

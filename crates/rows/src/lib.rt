@@ -8,94 +8,86 @@ ghost use Rattle.rows.specs.Starts.{start};
 use std::alloc::{AllocError, Global};
 use std::io;
 use std::io::Read;
-use words::{Recorded, copy_words, ends_at, word_at, words_differ};
+use words::{Place, Recorded, WORD_BYTES};
 
-// The digits of a word and its separator.
-const WORD_BYTES: usize = 17;
-
-// A row that was read: whether the call answers what it says, and the word behind it.
+// A row that was read: whether the call answers what it says, and the place behind it.
 #[derive(Clone, Copy, Debug, PartialEq, Eq)]
-pub struct Row {
+pub struct Row<'a> {
     pub agrees: bool,
-    pub end: usize,
+    pub end: Place<'a>,
 }
 
 // How many of the rows differ. A broken row, with a size above its limit, counts as one that differs, and is the last that is read, since
 // what follows it cannot be; a text that does not end with the last row has one more that differs.
-fn differing<F: Fn(Global, &[u8], usize) -> Result<Option<Row>, AllocError>>(
+fn differing<F: Fn(Global, Place<'_>) -> Result<Option<Row<'_>>, AllocError>>(
     alloc: Global,
-    text: &[u8],
+    first: Place<'_>,
     rows: u64,
     row_at: F,
 ) -> Result<u64, AllocError>
     requires { F.IsAlwaysCallable row_at }
 {
     let mut differ: u64 = 0;
-    let mut at: usize = 1;
+    let mut at = first;
     for _row in 0..rows {
-        let Some(row) = row_at(alloc, text, at)? else {
+        let Some(row) = row_at(alloc, at)? else {
             return Ok(differ.saturating_add(1));
         };
-        if !row.agrees {
-            differ = differ.saturating_add(1);
-        }
+        differ = differ.saturating_add(u64::from(!row.agrees));
         at = row.end;
     }
-    if !ends_at(text, at) {
-        differ = differ.saturating_add(1);
-    }
-    Ok(differ)
+    Ok(differ.saturating_add(u64::from(!at.is_end())))
 }
 
 // Replays standard input, a text of less than `room` bytes and at most `most` rows, and prints how many rows there were and how many differed.
-pub fn replay<R: Input + Print, F: Fn(Global, &[u8], usize) -> Result<Option<Row>, AllocError>>(
-    rt: &R,
-    alloc: Global,
-    room: usize,
-    most: u64,
-    row_at: F,
-) -> io::Result<()>
+pub fn replay<
+    R: Input + Print + AllocGlobal,
+    F: Fn(Global, Place<'_>) -> Result<Option<Row<'_>>, AllocError>,
+>(rt: &R, room: usize, most: u64, row_at: F) -> io::Result<()>
     requires { F.IsAlwaysCallable row_at }
 {
-    let mut text = Vec::new(alloc);
+    let mut text = Vec::new(rt.alloc());
     rt.reader().read_to_end(&mut text)?;
-    let rows = word_at(text.as_slice(), 0);
+    let head = Place {
+        text: text.as_slice(),
+        word: 0,
+    };
+    let rows = head.read();
     if room <= text.len() || most < rows {
         return println!(rt; "no list");
     }
-    let differ = differing(alloc, text.as_slice(), rows, row_at)?;
+    let differ = differing(rt.alloc(), head.after(1), rows, row_at)?;
     println!(rt; "{rows} rows, {differ} differ")
 }
 
-// What so many words say, from word i on.
+// What so many words say, from this place on.
 pub fn words_at<T: Recorded + Drop>(
     alloc: Global,
-    text: &[u8],
-    i: usize,
+    at: Place<'_>,
     n: usize,
 ) -> Result<Vec<T>, AllocError>
-    ensures { IfOk result (λ v. v.items ≡ words_as T.of_word text.now i n) }
+    ensures { IfOk result (λ v. v.items ≡ words_as T.of_word at.entry.text.now at.entry.word n) }
 {
     let mut xs = vec![in alloc; T::of_word(0); n]?;
-    copy_words(text, i, xs.as_mut_slice());
+    at.read_into(xs.as_mut_slice());
     Ok(xs)
 }
 
-// The sizes that a row begins with, at word i: none where one is no u32, or where the text has no word i.
-pub fn sizes_at<const N: usize>(text: &[u8], i: usize) -> Option<[u32; N]>
-    ensures there { IfSome result (λ s. i ≤ length text.now / 17) }
-    ensures read { IfSome result (λ s. s ≡ words_as low_half text.now i N) }
-    ensures fit { IfSome result (λ s. unlike eqb text.now i s ≡ 0) }
+// The sizes that a row begins with: none where one is no u32, or where the text has no such word.
+pub fn sizes_at<const N: usize>(at: Place<'_>) -> Option<[u32; N]>
+    ensures there { IfSome result (λ s. at.entry.word ≤ length at.entry.text.now / 17) }
+    ensures read { IfSome result (λ s. s ≡ words_as low_half at.entry.text.now at.entry.word N) }
+    ensures fit { IfSome result (λ s. unlike eqb at.entry.text.now at.entry.word s ≡ 0) }
 {
     let mut sizes = [0u32; N];
-    copy_words(text, i, &mut sizes);
-    if text.len() / WORD_BYTES < i || words_differ(text, i, &sizes) != 0 {
+    at.read_into(&mut sizes);
+    if at.text.len() / WORD_BYTES < at.word || at.unlike(&sizes) != 0 {
         return None;
     }
     Some(sizes)
 }
 
-// Where a recorded path starts.
+// Where a recorded path starts. The programs match on it, and take no closure: each call has a name for either case, with other parameters.
 #[derive(Clone, Copy)]
 pub enum Start {
     Centre {
@@ -109,9 +101,10 @@ pub enum Start {
     },
 }
 
-// The start that a row tells: 0 for Outside, 1 for Inside or 2 for Home, whose point stands at word i.
-pub fn start_at(text: &[u8], i: usize, width: u32, height: u32, strategy: u32) -> Option<Start>
-    ensures { result ≡ start text.now i width height strategy }
+// The start that a row tells: 0 for Outside, 1 for Inside or 2 for Home, whose point stands here.
+#[tactic(auto, unfolding(words::specs::Words::words_as))]
+pub fn start_at(at: Place<'_>, width: u32, height: u32, strategy: u32) -> Option<Start>
+    ensures { result ≡ start at.entry.text.now at.entry.word width height strategy }
 {
     match strategy {
         0 | 1 => Some(Start::Centre {
@@ -121,7 +114,7 @@ pub fn start_at(text: &[u8], i: usize, width: u32, height: u32, strategy: u32) -
         }),
         2 => {
             let mut home = [0.0f64; 2];
-            copy_words(text, i, &mut home);
+            at.read_into(&mut home);
             let [x, y] = home;
             Some(Start::Home { x, y })
         }
@@ -136,7 +129,7 @@ pub struct Plate {
     pub lengths: Vec<u32>,
     pub layers: Vec<u32>,
     pub start: Start,
-    // Whether each length and each layer is a u32.
+    // Whether each length and each layer is a u32. No `Option` of a plate: the calls are made on one that does not fit, too.
     pub fits: bool,
 }
 
@@ -155,34 +148,43 @@ impl Plate {
     }
 }
 
-// Where the parts of a plate begin in the text, and where the last of them ends.
+// Where the parts of a plate begin, and where the last of them ends.
 #[derive(Clone, Copy)]
-pub struct Parts {
-    pub points: usize,
-    pub lengths: usize,
-    pub layers: usize,
-    pub end: usize,
+pub struct Parts<'a> {
+    pub points: Place<'a>,
+    pub lengths: Place<'a>,
+    pub layers: Place<'a>,
+    pub end: Place<'a>,
 }
 
-// The plate whose parts stand at these words.
-pub fn plate_at(alloc: Global, text: &[u8], at: Parts, start: Start) -> Result<Plate, AllocError>
-    ensures points { IfOk result (λ p. p.points.items ≡ words_as float_of text.now at.points (at.lengths - at.points)) }
-    ensures lengths { IfOk result (λ p. p.lengths.items ≡ words_as low_half text.now at.lengths (at.layers - at.lengths)) }
-    ensures layers { IfOk result (λ p. p.layers.items ≡ words_as low_half text.now at.layers (at.end - at.layers)) }
-    ensures start { IfOk result (λ p. p.start ≡ start) }
-    ensures fits { IfOk result
-        (λ p. p.fits ≡ (eqb (unlike eqb text.now at.lengths p.lengths.items) 0 && eqb (unlike eqb text.now at.layers p.layers.items) 0)) }
+// What the words from one place to another say.
+fn words_between<T: Recorded + Drop>(
+    alloc: Global,
+    from: Place<'_>,
+    to: Place<'_>,
+) -> Result<Vec<T>, AllocError>
+    ensures { IfOk result (λ v. v.items ≡ words_as T.of_word from.entry.text.now from.entry.word (to.entry.word - from.entry.word)) }
 {
-    let points = words_at(alloc, text, at.points, at.lengths.saturating_sub(at.points))?;
-    let lengths = words_at(
-        alloc,
-        text,
-        at.lengths,
-        at.layers.saturating_sub(at.lengths),
-    )?;
-    let layers = words_at(alloc, text, at.layers, at.end.saturating_sub(at.layers))?;
-    let fits = words_differ(text, at.lengths, lengths.as_slice()) == 0
-        && words_differ(text, at.layers, layers.as_slice()) == 0;
+    words_at(alloc, from, to.word.saturating_sub(from.word))
+}
+
+// The plate whose parts stand at these places.
+pub fn plate_at(alloc: Global, at: Parts<'_>, start: Start) -> Result<Plate, AllocError>
+    ensures points { let from = at.entry.points in let to = at.entry.lengths in
+        IfOk result (λ p. p.points.items ≡ words_as float_of from.text.now from.word (to.word - from.word)) }
+    ensures lengths { let from = at.entry.lengths in let to = at.entry.layers in
+        IfOk result (λ p. p.lengths.items ≡ words_as low_half from.text.now from.word (to.word - from.word)) }
+    ensures layers { let from = at.entry.layers in let to = at.entry.end in
+        IfOk result (λ p. p.layers.items ≡ words_as low_half from.text.now from.word (to.word - from.word)) }
+    ensures start { IfOk result (λ p. p.start ≡ start) }
+    ensures fits { let l = at.entry.lengths in let m = at.entry.layers in IfOk result
+        (λ p. p.fits ≡ (eqb (unlike eqb l.text.now l.word p.lengths.items) 0 && eqb (unlike eqb m.text.now m.word p.layers.items) 0)) }
+{
+    let points = words_between(alloc, at.points, at.lengths)?;
+    let lengths = words_between(alloc, at.lengths, at.layers)?;
+    let layers = words_between(alloc, at.layers, at.end)?;
+    let fits = at.lengths.unlike(lengths.as_slice()) == 0
+        && at.layers.unlike(layers.as_slice()) == 0;
     Ok(Plate {
         points,
         lengths,

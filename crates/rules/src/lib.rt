@@ -46,7 +46,7 @@ pub struct PathPlace(pub u32);
 #[derive(Clone, Copy, PartialEq, Eq, PartialOrd, Ord)]
 pub struct Vertex(pub u32);
 
-// What the nearest query answers: a path place and a squared distance, or nothing.
+// What the nearest query answers: a path place and a squared distance, or nothing. No `Option`: the documents name these two cases.
 #[derive(Clone, Copy)]
 pub enum Nearest {
     Found(PathPlace, f64),
@@ -75,7 +75,7 @@ pub const MOST_PATH_POINTS: usize = 1048576;
 // Layers are 0 to this.
 pub const HIGHEST_LAYER: u32 = 15;
 
-// The kinds of marks, by their numbers.
+// The kinds of marks, by the numbers that the marks slice, which C reads, has for them.
 pub const START: u32 = 0;
 
 pub const CUT: u32 = 1;
@@ -97,6 +97,7 @@ pub enum Mark {
     Touch(Vertex),
 }
 
+// To numbers and back by methods and no `From`: a mark is two numbers of a slice, and what makes one again may find none.
 impl Mark {
     pub fn kind(self) -> u32
         ensures { result ≡ kind_of self }
@@ -114,11 +115,8 @@ impl Mark {
         ensures { result ≡ reference_of self }
     {
         match self {
-            Mark::Start(v) => v.0,
-            Mark::Cut(v) => v.0,
+            Mark::Start(v) | Mark::Cut(v) | Mark::Jump(v) | Mark::Touch(v) => v.0,
             Mark::BackStep(k) => k.0,
-            Mark::Jump(v) => v.0,
-            Mark::Touch(v) => v.0,
         }
     }
 
@@ -160,7 +158,7 @@ pub fn point_in(xs: &[f64], i: usize) -> Point
     }
 }
 
-// The point of a vertex.
+// The point of a vertex. It differs from `path_point` in the counter's type alone: neither counter is to be accepted for the other.
 pub fn point_at(points: &[f64], v: Vertex) -> Point
     requires { 2 * v.0 + 1 < length points.now }
     ensures { result ≡ at points.now v.0 }
@@ -177,7 +175,7 @@ pub fn path_point(path: &[f64], place: PathPlace) -> Point
 }
 
 // Path points, cuts, back-steps, jumps and touches.
-#[derive(Clone, Copy)]
+#[derive(Clone, Copy, Default)]
 pub struct Counts {
     pub points: u32,
     pub cuts: u32,

@@ -1,144 +1,121 @@
 -- Contour after contour is marked. Assumes nothing.
-use mathlib.Core.Path.{◌≡◌, refl, sym, ap, subst, ◌∙◌}
+use mathlib.Core.Path.{◌≡◌, refl, sym, subst, ◌∙◌}
 use mathlib.Core.Bool.{Bool, true, false}
 use mathlib.Core.List.{List, [], ◌∷◌, ◌++◌, append-nil, append_assoc}
 use Prim.Native.Nat.{ℕ, zero, suc, ◌+◌, ◌-◌, ◌≤◌, ◌<◌}
 use native.Mathlib.Decide.{dec_lt}
-use native.Mathlib.Nat.{add-zero}
-use native.Mathlib.Numerals.{add-one}
 use native.Mathlib.Omega.{arith}
 use lib.Ieee.{Float}
-use lib.ListN.{length, get_or, drop, drop_of_length-le}
-use lib.Seq.{drop-cons}
+use lib.ListN.{length, get_or}
 use Rattle.rules.specs.Tools.{pick, sum}
-use Rattle.rules.specs.HandedOver.{Contour, contours_from}
+use Rattle.rules.specs.HandedOver.{Contour, contours_from, contours_of}
 use Rattle.rules.specs.SamplesAndCache.{sampled}
 use Rattle.path.specs.Lists.{All, all_give, all_both, all_append}
-use Rattle.plate.specs.Reading.{sum_step, sum_end}
-use Rattle.start.specs.Oriented.{contour_of}
-use Rattle.start.specs.declared.Contour as code
 use Rattle.samples.specs.Vertices.{vertex_from}
-use Rattle.samples.specs.Owners.{OwnedBy, Marked, MarkedRun, MarkedAll}
+use Rattle.samples.specs.Owners.{OwnedBy, Marked, MarkedAll}
 use Rattle.samples.specs.Owning.{sampled_length, owned_more}
 
--- a contour that is not empty
-pub run_some : (xs : List Float) (s : Float) (n : ℕ) (c : code.Contour) (owners owners' : List ℕ) → (n ≡ 0 → ⊥) → c.last ≡ n - 1 →
-    Marked xs s (contour_of c) owners owners' → MarkedRun xs s c.number c.first.0 n owners owners'
-unfolding contour_of
-run_some xs s n c owners owners' h e r =
-    record { inside = λ i l. rw e at (r.inside i (omega arith)); before = r.before; after = λ v l. r.after v (omega arith) }
+-- of m contours with n vertices, those from contour j and vertex v on: each begins behind the one before
+abbrev pub Ahead : ℕ → ℕ → ℕ → ℕ → List Contour → Type 0
+Ahead m n j v [] = (j ≤ m) × (v ≡ n)
+Ahead m n j v (c ∷ cs) =
+    (j ≤ c.number) × (c.number < m) × (c.first ≡ v) × (c.first + c.last < n) × Ahead m n (suc c.number) (v + suc c.last) cs
 
--- an empty one
-pub run_none : (xs : List Float) (s : Float) (number first n : ℕ) (owners : List ℕ) → n ≡ 0 → MarkedRun xs s number first n owners owners
-run_none xs s number first n owners e = record { inside = λ i l. absurd (omega arith); before = λ v l. refl; after = λ v l. refl }
+ahead_later : (m n j v : ℕ) (cs : List Contour) → Ahead m n (suc j) v cs → Ahead m n j v cs
+ahead_later m n j v [] a = (omega (arith, a.0), a.1)
+ahead_later m n j v (c ∷ cs) a = (omega (arith, a.0), a.1, a.2, a.3, a.4)
 
--- the contours before contour j, whose vertex 0 is `first`, are marked
-pub record SoFar (xs : List Float) (s : Float) (lengths owners : List ℕ) (first j : ℕ) : Type 0 where
-  pub j_le : j ≤ length lengths
-  pub total : first + sum (drop j lengths) ≡ sum lengths
+ahead_from : (m n j v : ℕ) (ns : List ℕ) → m ≡ j + length ns → n ≡ v + sum ns → Ahead m n j v (contours_from j v ns)
+unfolding contours_from sum
+ahead_from m n j v [] k s = (omega arith, omega arith)
+ahead_from m n j v (zero ∷ ns) k s = ahead_later m n j v _ (ahead_from m n (suc j) v ns (omega arith) (omega arith))
+ahead_from m n j v (suc i ∷ ns) k s =
+    (omega arith, omega arith, refl, omega arith, ahead_from m n (suc j) (v + suc i) ns (omega arith) (omega arith))
+
+-- the contours that are not left are marked
+pub record SoFar (xs : List Float) (s : Float) (lengths owners : List ℕ) (left : List Contour) : Type 0 where
+  pub first : ℕ
+  pub j : ℕ
+  pub ahead : Ahead (length lengths) (sum lengths) j first left
   pub done : List Contour
-  pub list : done ++ contours_from j first (drop j lengths) ≡ contours_from 0 0 lengths
+  pub list : done ++ left ≡ contours_of lengths
   pub owned : All (OwnedBy xs s (λ v. get_or owners v 0) first) done
   pub numbers : All (λ c. c.number < j) done
   pub most : (v : ℕ) → v < first → get_or owners v 0 ≤ j
 
-contour : ℕ → ℕ → ℕ → Contour
-contour j first last = record { number = j; first = first; last = last }
+pub so_far_none : (xs : List Float) (s : Float) (lengths owners : List ℕ) (left : List Contour) → left ≡ contours_of lengths → SoFar xs s lengths owners left
+so_far_none xs s lengths owners left e =
+    record {
+      first = 0;
+      j = 0;
+      ahead = subst (Ahead (length lengths) (sum lengths) 0 0) (sym e) (ahead_from (length lengths) (sum lengths) 0 0 lengths (omega arith) (omega arith));
+      done = [];
+      list = e;
+      owned = tt;
+      numbers = tt;
+      most = λ v l. absurd (omega arith);
+    }
 
-module _ (xs : List Float) (s : Float) (lengths owners owners' : List ℕ) (first j : ℕ) (f : SoFar xs s lengths owners first j)
-    (l : j < length lengths) where
-  -- contour j has n vertices
-  module _ (n : ℕ) (q : n ≡ get_or lengths j 0) (r : MarkedRun xs s j first n owners owners') where
-    unrolled : drop j lengths ≡ n ∷ drop (suc j) lengths
-    unrolled = drop-cons lengths j 0 l ∙ ap (λ (k : ℕ). k ∷ drop (suc j) lengths) (sym q)
+module _ (xs : List Float) (s : Float) (lengths owners owners' : List ℕ) (c : Contour) (cs : List Contour) (f : SoFar xs s lengths owners (c ∷ cs))
+    (r : Marked xs s c owners owners') where
+  abbrev flag : ℕ → Bool
+  flag v = get_or (sampled (vertex_from xs c.first) s c.last) (v - c.first) false
 
-    total' : first + n + sum (drop (j + 1) lengths) ≡ sum lengths
-    total' = omega (arith, f.total, q, sum_step lengths j l)
+  -- a vertex of this contour is its own or nobody's
+  held : (v : ℕ) → f.first ≤ v → v < f.first + suc c.last → get_or owners' v 0 ≡ pick (flag v) (suc c.number) 0
+  held v g h =
+      let e : c.first + (v - c.first) ≡ v = omega (arith, f.ahead.2) in
+      subst (λ (i : ℕ). get_or owners' i 0 ≡ pick (flag v) (suc c.number) 0) e (r.inside (v - c.first) (omega (arith, f.ahead.2)))
 
-    abbrev flag : ℕ → Bool
-    flag v = get_or (sampled (vertex_from xs first) s (n - 1)) (v - first) false
+  upto : (b : Bool) (x : ℕ) → x ≡ pick b (suc c.number) 0 → x ≤ suc c.number
+  unfolding pick
+  upto true x h = omega arith
+  upto false x h = omega arith
 
-    -- a vertex of this contour is its own or nobody's
-    held : (v : ℕ) → first ≤ v → v < first + n → get_or owners' v 0 ≡ pick (flag v) (suc j) 0
-    held v g h =
-        let e : first + (v - first) ≡ v = omega arith in
-        subst (λ (i : ℕ). get_or owners' i 0 ≡ pick (flag v) (suc j) 0) e (r.inside (v - first) (omega arith))
+  other : (b : Bool) (x k : ℕ) → x ≡ pick b (suc c.number) 0 → k < c.number → x ≡ suc k → ⊥
+  unfolding pick
+  other true x k h l e = omega arith
+  other false x k h l e = omega arith
 
-    upto : (b : Bool) (x : ℕ) → x ≡ pick b (suc j) 0 → x ≤ j + 1
-    unfolding pick
-    upto true x h = omega arith
-    upto false x h = omega arith
+  same : (v : ℕ) → v < f.first → get_or owners' v 0 ≡ get_or owners v 0
+  same v g = r.before v (omega (arith, f.ahead.2))
 
-    other : (b : Bool) (x k : ℕ) → x ≡ pick b (suc j) 0 → k < j → x ≡ suc k → ⊥
-    unfolding pick
-    other true x k h l e = omega arith
-    other false x k h l e = omega arith
+  olds : All (OwnedBy xs s (λ v. get_or owners' v 0) (f.first + suc c.last)) f.done
+  olds =
+      all_give _ _
+      (λ d h.
+      owned_more _ _ f.first (f.first + suc c.last) _ _ _ h.0 (omega arith) same
+      (λ v g u q. other (flag v) _ d.number (held v g u) (omega (arith, h.1, f.ahead.0)) q))
+      f.done (all_both _ _ f.done f.owned f.numbers)
 
-    olds : All (OwnedBy xs s (λ v. get_or owners' v 0) (first + n)) f.done
-    olds =
-        all_give _ _
-        (λ c h.
-        owned_more _ _ first (first + n) _ _ _ h.0 (omega arith) (λ v g. r.before v g)
-        (λ v g u q. other (flag v) _ c.number (held v g u) h.1 q))
-        f.done (all_both _ _ f.done f.owned f.numbers)
-
-    later : All (λ c. c.number < j + 1) f.done
-    later = all_give _ _ (λ c h. omega arith) f.done f.numbers
-
-    bounds : (v : ℕ) → v < first + n → get_or owners' v 0 ≤ j + 1
-    bounds v g = go (dec_lt v first)
-      where
-        go : Dec (v < first) → get_or owners' v 0 ≤ j + 1
-        go (yes w) = omega (arith, r.before v w, f.most v w)
-        go (no w) = upto (flag v) _ (held v (omega arith) g)
-
-  so_far_none : 0 ≡ get_or lengths j 0 → MarkedRun xs s j first 0 owners owners' → SoFar xs s lengths owners' (first + 0) (j + 1)
-  unfolding contours_from
-  so_far_none q r =
+  new : OwnedBy xs s (λ v. get_or owners' v 0) (f.first + suc c.last) c
+  new =
+      let k = sampled_length (vertex_from xs c.first) s c.last in
       record {
-        j_le = omega arith;
-        total = total' 0 q r;
-        done = f.done;
-        list = rw (add-zero first, add-one j) (rw (unrolled 0 q r) at f.list);
-        owned = olds 0 q r;
-        numbers = later 0 q r;
-        most = bounds 0 q r;
+        fits = omega (arith, k, f.ahead.2);
+        inside = λ i g. r.inside i (omega (arith, k));
+        before = λ v g u. omega (arith, r.before v g, f.most v (omega (arith, f.ahead.2)), f.ahead.0);
+        after = λ v g h u. omega (arith, k, f.ahead.2);
       }
 
-  module _ (last : ℕ) (q : suc last ≡ get_or lengths j 0) (r : MarkedRun xs s j first (suc last) owners owners') where
-    new : OwnedBy xs s (λ v. get_or owners' v 0) (first + suc last) (contour j first last)
-    unfolding contour
-    new =
-        let k = sampled_length (vertex_from xs first) s last in
-        let d : suc last - 1 ≡ last = omega arith in
-        record {
-          fits = omega arith;
-          inside = λ i g. rw d at (r.inside i (omega arith));
-          before = λ v g u. omega (arith, r.before v g, f.most v g);
-          after = λ v g h u. omega arith;
-        }
+  pub so_far_next : SoFar xs s lengths owners' cs
+  so_far_next =
+      record {
+        first = f.first + suc c.last;
+        j = suc c.number;
+        ahead = f.ahead.4;
+        done = f.done ++ (c ∷ []);
+        list = append_assoc f.done (c ∷ []) cs ∙ f.list;
+        owned = all_append _ f.done (c ∷ []) olds (new, tt);
+        numbers = all_append _ f.done (c ∷ []) (all_give _ _ (λ d h. omega (arith, f.ahead.0)) f.done f.numbers) (omega arith, tt);
+        most = λ v g. bounds v g (dec_lt v f.first);
+      }
+    where
+      bounds : (v : ℕ) → v < f.first + suc c.last → Dec (v < f.first) → get_or owners' v 0 ≤ suc c.number
+      bounds v g (yes w) = omega (arith, same v w, f.most v w, f.ahead.0)
+      bounds v g (no w) = upto (flag v) _ (held v (omega arith) g)
 
-    so_far_one : SoFar xs s lengths owners' (first + suc last) (j + 1)
-    unfolding contours_from contour
-    so_far_one =
-        record {
-          j_le = omega arith;
-          total = total' (suc last) q r;
-          done = f.done ++ (contour j first last ∷ []);
-          list = rw (add-one j) (append_assoc f.done (contour j first last ∷ []) _ ∙ (rw (unrolled (suc last) q r) at f.list));
-          owned = all_append _ f.done (contour j first last ∷ []) (olds (suc last) q r) (new, tt);
-          numbers = all_append _ f.done (contour j first last ∷ []) (later (suc last) q r) (omega arith, tt);
-          most = bounds (suc last) q r;
-        }
-
-  pub so_far_step : (n : ℕ) → n ≡ get_or lengths j 0 → MarkedRun xs s j first n owners owners' → SoFar xs s lengths owners' (first + n) (j + 1)
-  so_far_step zero q r = so_far_none q r
-  so_far_step (suc last) q r = so_far_one last q r
-
-pub so_far_done : (xs : List Float) (s : Float) (lengths owners : List ℕ) (first j : ℕ) → SoFar xs s lengths owners first j →
-    length lengths ≤ j → MarkedAll xs s lengths owners
-unfolding contours_from
-so_far_done xs s lengths owners first j f l =
-    let t : first ≡ sum lengths = omega (arith, f.total, sum_end lengths j l) in
-    let e : f.done ≡ contours_from 0 0 lengths = sym (append-nil f.done) ∙ (rw (drop_of_length-le lengths l) at f.list) in
-    record { owned = rw (← e, ← t) f.owned; most = λ v g. omega (arith, f.most v (omega arith), f.j_le) }
+pub so_far_done : (xs : List Float) (s : Float) (lengths owners : List ℕ) → SoFar xs s lengths owners [] → MarkedAll xs s lengths owners
+so_far_done xs s lengths owners f =
+    let e : f.done ≡ contours_of lengths = sym (append-nil f.done) ∙ f.list in
+    record { owned = rw (← e, ← f.ahead.1) f.owned; most = λ v g. omega (arith, f.most v (omega (arith, f.ahead.1)), f.ahead.0) }

@@ -1,5 +1,5 @@
 -- Whose sample a vertex is: 1 more than the number of its contour, or 0 where it is no sample. Definitions only.
-use Rattle.std.specs.Prelude.{◌≡◌, Bool, false, List, ℕ, suc, ◌+◌, ◌-◌, ◌≤◌, ◌<◌, Float, length, get_or}
+use Rattle.std.specs.Prelude.{◌≡◌, Bool, false, List, ℕ, suc, ◌+◌, ◌≤◌, ◌<◌, Float, length, get_or}
 use Rattle.rules.specs.Tools.{pick, sum}
 use Rattle.rules.specs.HandedOver.{Contour, contours_from}
 use Rattle.rules.specs.SamplesAndCache.{sampled}
@@ -14,13 +14,6 @@ pub record Marked (xs : List Float) (s : Float) (c : Contour) (owners owners' : 
       get_or owners' (c.first + i) 0 ≡ pick (get_or (sampled (vertex_from xs c.first) s c.last) i false) (suc c.number) 0
   pub before : (v : ℕ) → v < c.first → get_or owners' v 0 ≡ get_or owners v 0
   pub after : (v : ℕ) → c.first + c.last < v → get_or owners' v 0 ≡ get_or owners v 0
-
--- the same of a contour of n vertices, which may have none
-pub record MarkedRun (xs : List Float) (s : Float) (number first n : ℕ) (owners owners' : List ℕ) : Type 0 where
-  pub inside : (i : ℕ) → i < n →
-      get_or owners' (first + i) 0 ≡ pick (get_or (sampled (vertex_from xs first) s (n - 1)) i false) (suc number) 0
-  pub before : (v : ℕ) → v < first → get_or owners' v 0 ≡ get_or owners v 0
-  pub after : (v : ℕ) → first + n ≤ v → get_or owners' v 0 ≡ get_or owners v 0
 
 -- ---- what holds of all contours
 

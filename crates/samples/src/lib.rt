@@ -19,8 +19,11 @@ use point::distance;
 use remainder::remainder;
 use rules::{Vertex, point_at};
 use start::Contour;
+use start::contours::Contours;
 
-// A plate's points and grid, and how the parts of the lent slice lie for them.
+// A plate's points and grid, and how the parts of the lent slice lie for them. That the frame and the slice belong together stands in contracts, as
+// `PlatedBy frame work` and `Laid lay (length work)`, and in no type: both speak of the work slice, which is written between calls, so that a type that held
+// it could not be lent in parts.
 #[derive(Clone, Copy)]
 pub struct Frame<'a> {
     pub points: &'a [f64],
@@ -36,6 +39,7 @@ fn is_sample(reached: bool, left: u32) -> bool
 }
 
 // What is carried on from a total: its remainder, where it has reached the resolution.
+#[tactic(auto, unfolding(rules::specs::Tools::pick))]
 fn carried(reached: bool, total: f64, resolution: f64) -> f64
     ensures { result ≡ pick reached (Ieee.rem binary64 total resolution) total }
 {
@@ -46,6 +50,7 @@ fn carried(reached: bool, total: f64, resolution: f64) -> f64
     }
 }
 
+#[tactic(auto, unfolding(rules::specs::Tools::pick))]
 fn owner_if(sample: bool, owner: u32) -> u32
     ensures { result ≡ pick sample owner 0 }
 {
@@ -61,7 +66,8 @@ fn segment(points: &[f64], v: Vertex) -> f64
     distance(point_at(points, v), point_at(points, next))
 }
 
-// Marks the samples of one contour with its number and 1, and its other vertices with 0.
+// Marks the samples of one contour with its number and 1, and its other vertices with 0. Owners, and the heads and links below, are words and no `Option`s:
+// C lends one slice of u32 for all of them, and there is no heap.
 pub fn arc_length_sample_indices(points: &[f64], owners: &mut [u32], resolution: f64, c: Contour)
     requires { (c.number < 4096) × (c.first.0 + c.last < length owners.old) × (length owners.old ≤ 65536)
         × (2 * length owners.old ≤ length points.now) }
@@ -83,26 +89,19 @@ pub fn arc_length_sample_indices(points: &[f64], owners: &mut [u32], resolution:
 }
 
 // Marks the samples of every contour.
+#[tactic(auto, using(crate::proofs::Marking::so_far_none, crate::proofs::Marking::so_far_next, crate::proofs::Marking::so_far_done))]
 pub fn mark_samples(points: &[f64], lengths: &[u32], owners: &mut [u32], resolution: f64)
     requires { (length lengths.now ≤ 4096) × (sum lengths.now ≡ length owners.old) × (length owners.old ≤ 65536)
         × (2 * length owners.old ≤ length points.now) }
     ensures { MarkedAll points.now resolution lengths.now owners.new }
 {
-    let mut first: u32 = 0;
-    for (number, &size) in lengths.iter().enumerate() {
-        if size != 0 {
-            let c = Contour {
-                number: number as u32,
-                first: Vertex(first),
-                last: size - 1,
-            };
-            arc_length_sample_indices(points, &mut *owners, resolution, c);
-        }
-        first += size;
+    for c in Contours::of(lengths) {
+        arc_length_sample_indices(points, &mut *owners, resolution, c);
     }
 }
 
 // The number of a vertex's cell.
+#[tactic(auto, unfolding(rules::specs::SamplesAndCache::cell_at, rules::specs::SamplesAndCache::cell_number))]
 fn cell_at(frame: &Frame<'_>, v: Vertex) -> u32
     requires { 2 * v.0 + 1 < length frame.now.points.now }
     ensures { (result ≡ cell_at (at frame.now.points.now) frame.now.grid.spatial v.0)
@@ -130,6 +129,7 @@ fn push_sample(frame: &Frame<'_>, work: &mut [u32], v: Vertex)
 }
 
 // Chains the samples of each cell in rising order: from the last vertex down, each is put in front. No cell has a chain before.
+#[tactic(auto, using(crate::proofs::Pushing::rising_none, crate::specs::Plated::plated_kept, crate::specs::Plated::from_kept))]
 pub fn chain_samples(frame: &Frame<'_>, work: &mut [u32])
     requires { (PlatedBy frame.now work.old)
         × ((c : ℕ) → c < frame.now.layout.cells → from work.old frame.now.layout.heads c ≡ 0) }

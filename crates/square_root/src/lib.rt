@@ -26,13 +26,14 @@ fn newton_step(n: u64, r: u64) -> u64
     (r + n / r) / 2
 }
 
-// A straight line gives the first guess; after two steps it is the root, or is led down to it.
+// A straight line gives the first guess; after two steps it is the root, or is led down to it. Not the library's `isqrt`: the documents ask that the root is
+// the program's own work.
 fn root_of_32_bits(n: u64) -> Root
     requires { (2 ^ 30 ≤ n) × (n < 2 ^ 32) }
     ensures { (result.root * result.root + result.remainder ≡ n) × (result.remainder ≤ 2 * result.root) }
 {
     let mut x = newton_step(n, newton_step(n, n / 98304 + 23211));
-    // No index: x goes down to the root.
+    // It counts down to the root, and no index.
     while n < x * x {
         x -= 1;
     }

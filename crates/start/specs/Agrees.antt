@@ -1,9 +1,9 @@
--- A contour that the code has oriented is the definitions' one. Assumes nothing.
-use Rattle.std.specs.Prelude.{◌≡◌, Bool, List, ◌+◌, Float}
+-- A contour that the code has oriented is the definitions' one, and its layer. Assumes nothing.
+use Rattle.std.specs.Prelude.{◌≡◌, Bool, List, ℕ, ◌+◌, Float, get_or}
 use Rattle.rules.specs.Tools.{pick}
-use Rattle.rules.specs.HandedOver.{Plate, at, vertex_at}
+use Rattle.rules.specs.HandedOver.{Plate, at, vertex_at, layer_at}
 use Rattle.rules.specs.Distances.{distance_squared}
-use Rattle.rules.specs.Start.{oriented}
+use Rattle.rules.specs.Start.{oriented, layer_of}
 use Rattle.rules.specs.declared.Point.{Point}
 use Rattle.start.specs.Oriented.{contour_of, oriented_of}
 use Rattle.start.specs.declared.Oriented as code
@@ -14,3 +14,7 @@ pub oriented_is : (p : Plate) (xs : List Float) (q : Point) (r : Bool) (c : code
     oriented_of s ≡ oriented p q r (contour_of c)
 unfolding oriented_of oriented vertex_at contour_of
 oriented_is p xs q r c s e f g h = rw (f, g, h, e)
+
+pub layer_is : (p : Plate) (ls : List ℕ) (s : code.Oriented) → p.layers ≡ ls → layer_of p (oriented_of s) ≡ get_or ls s.contour.number 0
+unfolding layer_of layer_at oriented_of contour_of
+layer_is p ls s e = rw e

@@ -1,2 +1,3 @@
 pub mod Oriented
+pub mod Left
 pub mod Agrees

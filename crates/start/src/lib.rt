@@ -11,12 +11,17 @@ ghost use Rattle.rules.specs.Calls.{start_call};
 ghost use Rattle.path.specs.Layers.{beats_in, taking, leads_in};
 ghost use Rattle.start.specs.Oriented.{contour_of, oriented_of, lead_of, LeadIn};
 
+pub mod contours;
+
+use crate::contours::Contours;
 use plate::check;
 use plate::checked_input::CheckedInput;
 use point::distance_squared;
 use rules::{HIGHEST_LAYER, Input, Point, Refusal, StartPointStrategy, Vertex, point_at};
+use std::cmp::Ordering;
 
-// A contour that is not empty: its number, its first vertex, and its last, counted from 0 within it.
+// A contour that is not empty: its number, its first vertex, and its last, counted from 0 within it. That its last vertex is below 65536 is no ghost field:
+// `prepare::waiting_contour` and `packed_contours::contour_at` make contours of words of which nothing is promised, and would have to ask it.
 #[derive(Clone, Copy)]
 pub struct Contour {
     pub number: u32,
@@ -36,23 +41,24 @@ pub fn image_center(width: u32, height: u32) -> Point
     ensures { result ≡ Start.centre width height }
 {
     Point {
-        x: width as f64 / 2.0,
-        y: height as f64 / 2.0,
+        x: f64::from(width) / 2.0,
+        y: f64::from(height) / 2.0,
     }
 }
 
-// The point from which a strategy takes distances.
+// The point from which a strategy takes distances. C hands over the strategy as a value; a closure for each case would be chosen by the same `match`.
+#[tactic(auto, unfolding(rules::specs::Start::measured_from))]
 fn measured_from(width: u32, height: u32, strategy: StartPointStrategy) -> Point
     ensures { result ≡ Start.measured_from strategy width height }
 {
     match strategy {
-        StartPointStrategy::Outside => image_center(width, height),
-        StartPointStrategy::Inside => image_center(width, height),
+        StartPointStrategy::Outside | StartPointStrategy::Inside => image_center(width, height),
         StartPointStrategy::Home(parked) => parked,
     }
 }
 
 // The vertex at which a contour in a sense begins.
+#[tactic(auto, unfolding(rules::specs::Tools::pick))]
 pub fn first_end(c: Contour, reversed: bool) -> Vertex
     requires { c.first.0 + c.last < 65536 }
     ensures { result.0 ≡ c.first.0 + pick reversed c.last 0 }
@@ -78,17 +84,19 @@ pub fn orient(points: &[f64], q: Point, reversed: bool, c: Contour) -> Oriented
     }
 }
 
+// C hands over the strategy as a value here too.
+#[tactic(auto, unfolding(rules::specs::Start::beats, crate::specs::Oriented::oriented_of))]
 fn beats(strategy: StartPointStrategy, new: Oriented, best: Oriented) -> bool
     ensures { result ≡ Start.beats strategy (oriented_of new) (oriented_of best) }
 {
     match strategy {
         StartPointStrategy::Outside => best.squared < new.squared,
-        StartPointStrategy::Inside => new.squared < best.squared,
-        StartPointStrategy::Home(_) => new.squared < best.squared,
+        StartPointStrategy::Inside | StartPointStrategy::Home(_) => new.squared < best.squared,
     }
 }
 
 // Whether one takes the lead: a lower layer does, a higher one does not.
+#[tactic(auto, using(crate::specs::Agrees::layer_is, path::proofs::Layers::beats_lower, path::proofs::Layers::beats_higher, path::proofs::Layers::beats_alike))]
 fn takes_lead(layers: &[u32], strategy: StartPointStrategy, new: Oriented, best: Oriented) -> bool
     requires { (new.contour.number < length layers.now) × (best.contour.number < length layers.now) }
     ensures { (p : Plate) → p.layers ≡ layers.now →
@@ -96,29 +104,27 @@ fn takes_lead(layers: &[u32], strategy: StartPointStrategy, new: Oriented, best:
 {
     let i = new.contour.number as usize;
     let j = best.contour.number as usize;
-    if layers[i] < layers[j] {
-        return true;
+    match layers[i].cmp(&layers[j]) {
+        Ordering::Less => true,
+        Ordering::Equal => beats(strategy, new, best),
+        Ordering::Greater => false,
     }
-    if layers[j] < layers[i] {
-        return false;
-    }
-    beats(strategy, new, best)
 }
 
 // The lead where there was none: a contour with a layer above the highest is never chosen.
+#[tactic(auto, using(crate::specs::Agrees::layer_is, path::specs::Layers::taking_low, path::specs::Layers::taking_high), unfolding(rules::specs::Tools::highest_layer, crate::specs::Oriented::lead_of))]
 fn first_lead(layers: &[u32], new: Oriented) -> Option<Oriented>
     requires { new.contour.number < length layers.now }
     ensures { (LeadIn (length layers.now) result)
         × ((p : Plate) → p.layers ≡ layers.now → lead_of result ≡ taking (Start.layer_of p) (some (oriented_of new))) }
 {
     let k = new.contour.number as usize;
-    if HIGHEST_LAYER < layers[k] {
-        return None;
-    }
-    Some(new)
+    (layers[k] <= HIGHEST_LAYER).then_some(new)
 }
 
-// The lead after one more.
+// The lead after one more. `choosing` and `optimize` have a lead by layers each, and no generic function serves the three: one keeps ends, which a strategy
+// compares, one numbers into cached distances, and one places, most of which are passed over unseen.
+#[tactic(auto, unfolding(path::specs::Layers::leads_in, rules::specs::Tools::leads, crate::specs::Oriented::lead_of, rules::specs::Tools::pick))]
 fn lead_after(
     layers: &[u32],
     strategy: StartPointStrategy,
@@ -140,6 +146,7 @@ fn lead_after(
 }
 
 // The lead after a contour: its first point before its last.
+#[tactic(auto, using(crate::specs::Agrees::oriented_is), unfolding(rules::specs::HandedOver::plate, rules::specs::Start::ends))]
 fn try_contour(input: &Input<'_>, q: Point, lead: Option<Oriented>, c: Contour) -> Option<Oriented>
     requires within { c.first.0 + c.last < 65536 }
     requires held { 2 * (c.first.0 + c.last) + 1 < length input.now.points.now }
@@ -156,23 +163,15 @@ fn try_contour(input: &Input<'_>, q: Point, lead: Option<Oriented>, c: Contour) 
 }
 
 // The end that leads the path, or nothing where no contour has a point.
+#[tactic(auto, using(crate::proofs::Ends::led_start, crate::specs::Left::all_within), unfolding(rules::specs::HandedOver::plate, rules::specs::Start::ends, crate::specs::Oriented::lead_of, crate::specs::Oriented::contour_of))]
 pub fn choose_start_contour(checked: &CheckedInput<'_>) -> Option<Oriented>
     ensures { lead_of result ≡ Start.start (plate_of checked.now.input) }
 {
     let input = checked.input;
     let from = measured_from(input.width, input.height, input.strategy);
     let mut lead = None;
-    let mut first: u32 = 0;
-    for (number, &size) in input.lengths.iter().enumerate() {
-        if size != 0 {
-            let c = Contour {
-                number: number as u32,
-                first: Vertex(first),
-                last: size - 1,
-            };
-            lead = try_contour(&input, from, lead, c);
-        }
-        first += size;
+    for c in Contours::of(input.lengths) {
+        lead = try_contour(&input, from, lead, c);
     }
     lead
 }
@@ -182,8 +181,6 @@ pub fn start_call(input: &Input<'_>) -> Result<(u32, bool), Refusal>
     ensures { answer_of result ≡ start_call (plate_of input.now) }
 {
     let checked = check(input)?;
-    let Some(s) = choose_start_contour(&checked) else {
-        return Err(Refusal::Blank);
-    };
+    let s = choose_start_contour(&checked).ok_or(Refusal::Blank)?;
     Ok((s.contour.number, s.reversed))
 }

@@ -1,11 +1,9 @@
 -- The packed contours of an order: they have its vertices, and their points are the plate's. Assumes nothing.
 use mathlib.Core.Path.{◌≡◌, refl, ap₂}
-use mathlib.Core.Bool.{Bool, true, false}
 use mathlib.Core.List.{List, [], ◌∷◌, ◌++◌, map}
 use Prim.Native.Nat.{ℕ, suc, ◌+◌}
 use native.Mathlib.Numerals.{add-one}
 use native.Mathlib.Omega.{arith}
-use lib.Dec.{eqb}
 use lib.Ieee.{Float}
 use lib.ListN.{get_or}
 use Rattle.rules.specs.Tools.{pick, up_from, down_to}
@@ -15,13 +13,8 @@ use Rattle.rules.specs.OrderAndStraight.{order, straight}
 use Rattle.path.specs.Lists.{All, all_give, all_map}
 use Rattle.path.specs.Accepted.{Accepted}
 use Rattle.packed_contours.specs.Packed.{packed_sense, number_in, first_in}
-use Rattle.packed_contours.specs.Unpacked.{Unpacked, order_unpacked}
+use Rattle.packed_contours.specs.Unpacked.{sense_is, Unpacked, order_unpacked}
 use Rattle.straight.specs.Runs.{run, run_of, runs, Readable}
-
-sense_is : (b : Bool) → eqb (pick b 1 0) 1 ≡ b
-unfolding pick
-sense_is true = refl
-sense_is false = refl
 
 run_packed : (ns : List ℕ) (s : Oriented) → Unpacked ns s →
     run_of ns (packed_sense s) ≡ pick s.reversed (down_to s.contour.first (suc s.contour.last)) (up_from s.contour.first (suc s.contour.last))

@@ -10,7 +10,7 @@ ghost use Rattle.path.specs.Lists.{All};
 ghost use Rattle.straight.specs.Runs.{run, runs, Readable};
 
 use optimize::optimize_path_order;
-use packed_contours::{NUMBER_UNIT, SENSE_UNIT};
+use packed_contours::Packed;
 use plate::check;
 use plate::checked_input::CheckedInput;
 use rules::{Input, MOST_PATH_POINTS, Refusal, Vertex, point_at};
@@ -28,6 +28,7 @@ impl Run {
     ghost use Rattle.straight.specs.Vertices.{vertices};
 
     // Vertex i, counted in the contour's sense.
+    #[tactic(auto, using(crate::proofs::Running::up_at, crate::proofs::Running::down_at), unfolding(crate::specs::Runs::run, rules::specs::Tools::pick))]
     fn vertex(self, i: u32) -> Vertex
         requires { i < self.size }
         ensures { result.0 ≡ get_or (vertices self) i 0 }
@@ -39,7 +40,8 @@ impl Run {
         Vertex(v + i)
     }
 
-    // Writes its points to a part of the path, as many as have room there, and answers how many they are.
+    // Writes its points to a part of the path, as many as have room there, and answers how many they are. By index: of what `chunks_exact_mut` lends a
+    // proof knows how long it is afterwards, and not its numbers.
     fn write(self, points: &[f64], part: &mut [f64]) -> usize
         requires { 2 * (self.first.0 + self.size) ≤ length points.now }
         ensures count { result ≡ min self.size (length part.old / 2) }
@@ -62,11 +64,11 @@ fn write_contours(points: &[f64], lengths: &[u32], words: &[u32], path: &mut [f6
 {
     let mut count: usize = 0;
     for &word in words {
-        let number = (word % SENSE_UNIT / NUMBER_UNIT) as usize;
+        let packed = Packed::from(word);
         let run = Run {
-            first: Vertex(word % NUMBER_UNIT),
-            size: lengths[number],
-            reversed: word / SENSE_UNIT == 1,
+            first: packed.first,
+            size: lengths[packed.number as usize],
+            reversed: packed.reversed,
         };
         count += run.write(points, &mut path[2 * count..]);
     }

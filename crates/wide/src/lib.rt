@@ -1,4 +1,4 @@
-// Numbers of 128 bits as two halves.
+// Numbers of 128 bits as two halves, and no u128: the documents ask that the sum and the root are the program's own work over bits.
 #![tactic(auto)]
 
 ghost use Rattle.std.specs.Prelude.{◌≡◌, ◌+◌, ◌*◌, ◌/◌, ◌%◌, ◌^◌, ◌<◌, ◌≤◌};
@@ -12,7 +12,8 @@ pub struct Wide {
     pub lo: u64,
 }
 
-// What a shift to the right leaves, and the sticky bit of what it cut off: a digit, which sums take.
+// What a shift to the right leaves, and the sticky bit of what it cut off.
+// The bit is a number and no bool: rounding adds it below the last digit, as 2 * q + sticky, and the definitions of rounding take it as a number.
 #[derive(Clone, Copy)]
 pub struct Shifted {
     pub value: Wide,
@@ -89,16 +90,9 @@ pub fn plus(a: Wide, b: Wide) -> Wide
     requires { a.hi + b.hi < 2 ^ 63 }
     ensures { (wide result.hi result.lo ≡ wide a.hi a.lo + wide b.hi b.lo) × (result.lo < 2 ^ 64) }
 {
-    let lo = a.lo.wrapping_add(b.lo);
-    if lo < a.lo {
-        Wide {
-            hi: a.hi + b.hi + 1,
-            lo,
-        }
-    } else {
-        Wide {
-            hi: a.hi + b.hi,
-            lo,
-        }
+    let (lo, carried) = a.lo.overflowing_add(b.lo);
+    Wide {
+        hi: a.hi + b.hi + u64::from(carried),
+        lo,
     }
 }

@@ -1,30 +1,31 @@
 -- Words from a place on, taken one after the other. Assumes nothing.
 use mathlib.Core.Path.{◌≡◌, refl, sym, ap, ◌∙◌}
 use mathlib.Core.Bool.{Bool, true, false, cond}
-use mathlib.Core.List.{List, [], ◌∷◌, ◌++◌, append-nil}
+use mathlib.Core.List.{List, [], ◌∷◌, ◌++◌}
 use Prim.Native.Nat.{ℕ, zero, suc, ◌+◌, ◌*◌, ◌/◌, ◌≤◌, ◌<◌, min}
 use native.Mathlib.Nat.{add_assoc, add-zero}
 use native.Mathlib.Numerals.{add-one}
 use native.Mathlib.Omega.{arith}
-use lib.ListN.{length, get_or, take, drop, set, length-append, length-drop, drop_of_length-le}
-use lib.Seq.{drop-cons, drop-length, append_snoc, set_at}
+use lib.ListN.{length, get_or, take, drop, set, drop_of_length-le}
+use lib.Seq.{drop-cons, append_snoc, set_at}
 use Rattle.std.proofs.Math.Decide.{dec_le}
 use borrow.Author.Tests.{lt-ltb, le-ltb}
 use Rattle.words.specs.Words.{no_word, spelled, word, words_as, unlike}
 
 -- ---- words that are there, and places behind the last
 
-pub present : (text : List ℕ) (i : ℕ) → i < length text / 17 → word text i ≡ spelled 0 (take 16 (drop (17 * i) text))
+pub present : (text : List ℕ) (i n : ℕ) → i < length text / 17 → n ≡ 16 → word text i ≡ spelled 0 (take n (drop (17 * i) text))
 unfolding word
-present text i h = rw (lt-ltb i (length text / 17) h)
+present text i n h e = rw (e, lt-ltb i (length text / 17) h)
 
 pub missing : (text : List ℕ) (i : ℕ) → length text / 17 ≤ i → word text i ≡ no_word
 unfolding word
 missing text i h = rw (le-ltb i (length text / 17) h)
 
 -- a place that is no number of the code is behind the last word, and so is the greatest number
-pub capped : (text : List ℕ) (i k p : ℕ) → length text < 18446744073709551616 → p ≡ min (i + k) 18446744073709551615 → word text p ≡ word text (i + k)
-capped text i k p h e = go (dec_le (i + k) 18446744073709551615)
+pub capped : (text t : List ℕ) (i k p : ℕ) → length text < 18446744073709551616 → t ≡ text → p ≡ min (i + k) 18446744073709551615 →
+    word t p ≡ word text (i + k)
+capped text t i k p h s e = rw s (go (dec_le (i + k) 18446744073709551615))
   where
     go : Dec (i + k ≤ 18446744073709551615) → word text p ≡ word text (i + k)
     go (yes l) = let f : p ≡ i + k = omega arith in rw f
@@ -56,9 +57,6 @@ module _ {A : Type 0} (f : ℕ → A) (text : List ℕ) (s : ℕ) (xs : List A) 
   unfolding words_as
   copied_none = (omega arith, refl)
 
-  pub copied_length : (k : ℕ) (now : List A) → Copied k now → length now ≡ length xs
-  copied_length k now c = rw c.1 (simp (length-append, length-drop, words_as_length) (omega arith))
-
   stored : (d : A) (k : ℕ) → k < length xs →
       set (words_as f text s k ++ drop k xs) k (f (word text (s + k))) ≡ words_as f text s (k + 1) ++ drop (k + 1) xs
   stored d k h =
@@ -72,11 +70,6 @@ module _ {A : Type 0} (f : ℕ → A) (text : List ℕ) (s : ℕ) (xs : List A) 
 
   pub copied_more : (d : A) (k : ℕ) (now : List A) (w : ℕ) (x : A) → Copied k now → k < length xs → w ≡ word text (s + k) → x ≡ f w → Copied (k + 1) (set now k x)
   copied_more d k now w x c h e g = (omega arith, rw (c.1, g, e) (stored d k h))
-
-  pub copied_all : (k : ℕ) (now : List A) → Copied k now → length xs ≤ k → now ≡ words_as f text s (length xs)
-  copied_all k now c h =
-      let e : k ≡ length xs = omega arith in
-      c.1 ∙ rw (e, drop-length xs, append-nil)
 
 module _ {A : Type 0} (same : A → ℕ → Bool) (text : List ℕ) (s : ℕ) (xs : List A) where
   -- of k elements, `differ` are not their words

@@ -2,13 +2,19 @@
 // hexadecimal reads as all ones: no recorded number or answer is that, only a coordinate may be (a NaN).
 #![tactic(auto)]
 
-ghost use Rattle.std.specs.Prelude.{◌≡◌, Bool, ℕ, ◌+◌, ◌≤◌, ◌<◌, eqb, length, take, drop, MatchOption};
+ghost use Rattle.std.specs.Prelude.{◌≡◌, Bool, ℕ, ◌+◌, ◌≤◌, ◌<◌, eqb, min, length, take, drop, MatchOption};
 ghost use Rattle.words.specs.Words.{hex_digit, spelled, word, ends_at, float_of, low_half, words_as, has_bits, unlike};
 
-// No `Option`: a word that is missing differs from each recorded number, and each caller would make this of `None`.
-const NO_WORD: u64 = 18446744073709551615;
+use std::num::f64_from_bits_with_nan;
 
-// The value of a hexadecimal digit.
+// The digits of a word and its separator.
+pub const WORD_BYTES: usize = 17;
+
+// No `Option`: `word` of specs/ says all ones for a missing word, and what is read into a slice needs a number.
+const NO_WORD: u64 = u64::MAX;
+
+// The value of a hexadecimal digit. `to_digit` takes capital letters too.
+#[tactic(auto, unfolding(crate::specs::Words::hex_digit))]
 fn digit(b: u8) -> Option<u64>
     ensures { MatchOption result (hex_digit b ≡ 16) (λ d. (d ≡ hex_digit b) × (d < 16)) }
 {
@@ -19,37 +25,19 @@ fn digit(b: u8) -> Option<u64>
     }
 }
 
-// The number that the sixteen bytes from `from` on spell.
-fn parse(text: &[u8], from: usize) -> u64
-    requires { from + 16 ≤ length text.now }
-    ensures { result ≡ spelled 0 (take 16 (drop from text.now)) }
+// The number that these digits spell.
+fn parse(digits: &[u8]) -> u64
+    requires { length digits.now ≤ 16 }
+    ensures { result ≡ spelled 0 digits.now }
 {
     let mut value: u64 = 0;
-    for k in 0..16 {
-        let Some(d) = digit(text[from + k]) else {
+    for &b in digits {
+        let Some(d) = digit(b) else {
             return NO_WORD;
         };
         value = value * 16 + d;
     }
     value
-}
-
-// Word number i.
-pub fn word_at(text: &[u8], i: usize) -> u64
-    ensures { result ≡ word text.now i }
-{
-    if i < text.len() / 17 {
-        parse(text, 17 * i)
-    } else {
-        NO_WORD
-    }
-}
-
-// Whether the text has i words and nothing behind them.
-pub fn ends_at(text: &[u8], i: usize) -> bool
-    ensures { result ≡ ends_at text.now i }
-{
-    text.len() / 17 == i && text.len() % 17 == 0
 }
 
 // What a word can be recorded for.
@@ -74,19 +62,13 @@ impl Recorded for f64 {
 
     // Every NaN pattern is the one NaN.
     fn of_word(word: u64) -> f64 {
-        if 9218868437227405312 < word % 9223372036854775808 {
-            return 0.0 / 0.0;
-        }
-        f64::from_bits(word)
+        f64_from_bits_with_nan(word)
     }
 
     // Whether it is a number, or an infinity, with this pattern.
+    #[tactic(auto, unfolding(crate::specs::Words::has_bits))]
     fn is_word(self, word: u64) -> bool {
-        if self == self {
-            f64::to_bits(self) == word
-        } else {
-            false
-        }
+        !self.is_nan() && self.to_bits() == word
     }
 }
 
@@ -105,24 +87,65 @@ impl Recorded for u32 {
     }
 }
 
-// Each element becomes what its word says: the words from word i on.
-pub fn copy_words<T: Recorded>(text: &[u8], i: usize, xs: &mut [T])
-    ensures { xs.new ≡ words_as T.of_word text.now i (length xs.old) }
-{
-    for (k, x) in xs.iter_mut().enumerate() {
-        *x = T::of_word(word_at(text, i.saturating_add(k)));
-    }
+// A place in a text: the word of this number, or behind the last word.
+#[derive(Clone, Copy, Debug, PartialEq, Eq)]
+pub struct Place<'a> {
+    pub text: &'a [u8],
+    pub word: usize,
 }
 
-// How many of the elements are not the words from word i on.
-pub fn words_differ<T: Recorded>(text: &[u8], i: usize, xs: &[T]) -> usize
-    ensures { result ≡ unlike T.is_word text.now i xs.now }
-{
-    let mut differ: usize = 0;
-    for (k, x) in xs.iter().enumerate() {
-        if !x.is_word(word_at(text, i.saturating_add(k))) {
-            differ += 1;
+impl<'a> Place<'a> {
+    // The place so many words on. No text has a word at the greatest number.
+    pub fn after(self, words: usize) -> Place<'a>
+        ensures text { result.text.now ≡ self.entry.text.now }
+        ensures word { result.word ≡ min (self.entry.word + words) usize.MAX }
+    {
+        Place {
+            text: self.text,
+            word: self.word.saturating_add(words),
         }
     }
-    differ
+
+    // The word that stands here.
+    #[tactic(auto, using(crate::proofs::Places::present, crate::proofs::Places::missing))]
+    pub fn read(self) -> u64
+        ensures { result ≡ word self.entry.text.now self.entry.word }
+    {
+        if self.word < self.text.len() / WORD_BYTES {
+            let first = WORD_BYTES * self.word;
+            parse(&self.text[first..first + 16])
+        } else {
+            NO_WORD
+        }
+    }
+
+    // Whether the text has as many words as stand before this place, and nothing behind them.
+    pub fn is_end(self) -> bool
+        ensures { result ≡ ends_at self.entry.text.now self.entry.word }
+    {
+        self.text.len() / WORD_BYTES == self.word && self.text.len() % WORD_BYTES == 0
+    }
+
+    // Each element becomes what its word says: the words from here on.
+    pub fn read_into<T: Recorded>(self, xs: &mut [T])
+        ensures { xs.new ≡ words_as T.of_word self.entry.text.now self.entry.word (length xs.old) }
+    {
+        for (k, x) in xs.iter_mut().enumerate() {
+            *x = T::of_word(self.after(k).read());
+        }
+    }
+
+    // How many of the elements are not the words from here on. No `filter` and `count`: tried, and the proof did not close. What such a chain gives is found
+    // where the clause is a `count_by` of the numbered elements, and `unlike` of specs/ goes from word to word.
+    pub fn unlike<T: Recorded>(self, xs: &[T]) -> usize
+        ensures { result ≡ unlike T.is_word self.entry.text.now self.entry.word xs.now }
+    {
+        let mut differ: usize = 0;
+        for (k, x) in xs.iter().enumerate() {
+            if !x.is_word(self.after(k).read()) {
+                differ += 1;
+            }
+        }
+        differ
+    }
 }

@@ -1,6 +1,10 @@
--- The first k points are set.
-use Rattle.boundary.proofs.Line.{Lined}
+-- The first k points are set, and each second number is as it was.
+use Rattle.std.proofs.Common.{◌≡◌, ℕ, ◌+◌, ◌*◌, ◌<◌, get_or, pos, Float}
+use Rattle.std.specs.Float.{binary64}
+use Rattle.std.specs.Float.Ieee.{of_int}
 use Rattle.boundary.proofs.along.Given as goal
 
 abbrev pub invariant-loop-k : goal.invariant-loop-k
-invariant-loop-k l = Lined l.initial.xs l.k l.xs
+invariant-loop-k l =
+    ((j : ℕ) (d : Float) → j < l.k → get_or l.xs (2 * j) d ≡ of_int binary64 (pos j))
+    × ((j : ℕ) (d : Float) → get_or l.xs (2 * j + 1) d ≡ get_or l.initial.xs (2 * j + 1) d)

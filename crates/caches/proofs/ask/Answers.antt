@@ -1,5 +1,5 @@
 -- `caches::ask` meets its contract: a vertex lies on the plate. Assumes nothing.
-use Rattle.std.proofs.Common.{ap, ◌∙◌}
+use Rattle.std.proofs.Common.{ap, ◌∙◌, ◌/◌, length}
 use Rattle.rules.specs.GridAndNearest.{nearest}
 use Rattle.rules.specs.SamplesAndCache.{ask_path}
 use Rattle.rules.specs.declared.Point.{Point}
@@ -15,4 +15,4 @@ pub returns : goal.returns
 unfolding ask_path
 returns c =
     let a = c.args in
-    c.nearest.ensures ∙ ap (λ (q : Point). nearest a.frame.now.grid.spatial (points a.path.now.points.now a.path.now.count) q) c.point_at.ensures
+    c.nearest.ensures ∙ ap (λ (q : Point). nearest a.frame.now.grid.spatial (points a.path.now (length a.path.now / 2)) q) c.point_at.ensures

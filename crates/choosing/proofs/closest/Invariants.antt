@@ -9,7 +9,7 @@ use Rattle.choosing.proofs.closest.Given as goal
 
 abbrev pub invariant-loop-j : goal.invariant-loop-j
 invariant-loop-j l =
-    (IfSome l.lead (λ best. best < l.lay.contours))
-    × (let waits = from l.work l.lay.waiting in
-    let n = l.lay.contours in
-    led_from l.layers l.distances waits n l.j (leader_of l.lead) ≡ foremost (layer_by l.layers) (closer_by l.distances) (waiters_from waits 0 n))
+    (IfSome l.lead (λ best. best < l.fn.lay.contours))
+    × (let waits = from l.work l.fn.lay.waiting in
+    let n = l.fn.lay.contours in
+    led_from l.fn.layers l.distances waits n l.j (leader_of l.lead) ≡ foremost (layer_by l.fn.layers) (closer_by l.distances) (waiters_from waits 0 n))

@@ -5,4 +5,4 @@ use Rattle.emission.proofs.Emitting.{down_to_lem}
 use Rattle.emission.proofs.cut_down.Given as goal
 
 abbrev pub invariant-loop-i : goal.invariant-loop-i
-invariant-loop-i l = DrawingBy l.points l.fn.writer l.writer (Ok tt) (down_to_lem l.v.0 l.n l.i)
+invariant-loop-i l = DrawingBy l.points.coordinates.now l.fn.writer l.writer (Ok tt) (down_to_lem l.v.0 l.n l.i)

@@ -1,10 +1,7 @@
 -- Each turn sums up one more word; after the last, the remainders are the checks.
 use Rattle.std.proofs.Common.{◌∙◌, ◌/◌, ◌<◌, length, take, length-take-le, arith}
-use Rattle.file_block.specs.Checks.{summed_none, summed_more, summed_all, checked_front, word_in}
+use Rattle.file_block.specs.Checks.{summed_more, summed_all, checked_front, word_in}
 use Rattle.file_block.proofs.sum_words.Goals as goal
-
-pub loop-word-init : goal.loop-word-init
-loop-word-init c = summed_none (take 504 c.args.bytes.now)
 
 pub loop-word-preserved : goal.loop-word-preserved
 loop-word-preserved c =

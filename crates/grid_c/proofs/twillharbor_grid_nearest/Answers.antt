@@ -1,7 +1,12 @@
 -- `grid_c::twillharbor_grid_nearest`: where the plate has a grid and the slices have room, the answers are written.
-use Rattle.std.proofs.Common.{refl, sym, ◌∙◌, arith, true≢false}
+use Rattle.std.proofs.Common.{refl, sym, ◌∙◌, ◌*◌, arith, true≢false}
+use Rattle.std.proofs.lemmas.List.{length-take}
 use Rattle.rules.specs.Tools.{pick}
+use Rattle.path.specs.Lists.{all_take}
+use Rattle.path.specs.FiniteDistances.{OnPlate}
+use Rattle.history.specs.Cut.{count_cut, points_cut}
 use Rattle.grid_c.specs.Passing.{query_room_told}
+use Rattle.grid_c.specs.Results.{ask}
 use Rattle.grid_c.proofs.twillharbor_grid_nearest.Goals as goal
 
 pub returns-then-not-has_query_room : goal.returns-then-not-has_query_room
@@ -17,31 +22,41 @@ pub grid_for-g-requires : goal.grid_for-g-requires
 grid_for-g-requires c =
     (query_room_told _ _ _ c.accepted_points-n.ensures _ _ _ _ (sym c.if-not-has_query_room.ensures)).0.sound
 
+pub slice_bounds-path-end : goal.slice_bounds-path-end
+slice_bounds-path-end c =
+    let w = query_room_told _ _ _ c.accepted_points-n.ensures _ _ _ _ (sym c.if-not-has_query_room.ensures) in
+    omega (arith, w.0.half, w.3, length-take (2 * c.args.count) c.args.points.now)
+
 pub insert_all-requires : goal.insert_all-requires
 insert_all-requires c =
+    let xs = c.args.points.now in
     let w = query_room_told _ _ _ c.accepted_points-n.ensures _ _ _ _ (sym c.if-not-has_query_room.ensures) in
+    let n = count_cut xs c.args.count (omega (arith, w.0.half, w.3)) in
     let p = w.0.plate in
-    (p.on_plate, omega (arith, w.0.half, w.3), omega (arith, w.0.points, p.points, w.3), w.4)
+    (all_take OnPlate (2 * c.args.count) xs p.on_plate, omega (arith, n, w.0.points, p.points, w.3), omega (arith, n, w.4))
 
 pub query_all-requires : goal.query_all-requires
 query_all-requires c =
     let w = query_room_told _ _ _ c.accepted_points-n.ensures _ _ _ _ (sym c.if-not-has_query_room.ensures) in
-    let p = w.0.plate in (
-      p.on_plate,
-      omega (arith, p.points, p.counted),
-      c.insert_all.ensures,
-      omega (arith, w.0.half, w.1),
-      omega (arith, w.0.half, w.2),
-    )
+    let p = w.0.plate in
+    record {
+      on_plate = p.on_plate;
+      small = (omega (arith, p.points, p.counted), omega (arith, length-take (2 * c.args.count) c.args.points.now, p.points, p.counted));
+      ready = c.insert_all.ensures;
+      places_room = omega (arith, w.0.half, w.1);
+      squared_room = omega (arith, w.0.half, w.2);
+    }
 
 pub returns : goal.returns
-unfolding pick
+unfolding pick ask
 returns c =
     let e = c.accepted_points-n.ensures in
     let g = c.grid_for-g.ensures in
-    let half = (query_room_told _ _ _ e _ _ _ _ (sym c.if-not-has_query_room.ensures)).0.half in (
+    let w = query_room_told _ _ _ e _ _ _ _ (sym c.if-not-has_query_room.ensures) in
+    let half = w.0.half in
+    let same = points_cut c.args.points.now c.args.count (omega (arith, half, w.3)) in (
       c.if-not-has_query_room.ensures ∙ rw e,
-      rw (c.query_all.ensures.0, g, half, e),
-      rw (c.query_all.ensures.1, g, half, e),
+      rw (c.query_all.ensures.0, g, half, e, same),
+      rw (c.query_all.ensures.1, g, half, e, same),
       λ f. absurd (true≢false f),
     )

@@ -1,7 +1,7 @@
 -- `grid_c::twillharbor_grid_of`: the numbers of the grid, where the plate has one.
 use Rattle.std.proofs.Common.{sym, ap, ◌∙◌, arith}
 use lib.Ieee.{of_bits}
-use borrow.Author.Tests.{lt-ltb, le-ltb}
+use borrow.Author.Tests.{lt-ltb}
 use Rattle.rules.specs.Tools.{pick}
 use Rattle.grid_c.specs.Passing.{gridded}
 use Rattle.grid_c.specs.Results.{grid_result, no_grid}

@@ -1,35 +1,19 @@
 -- The contour that is chosen enters and is settled; the path is the rules' where nobody waits, and where it is full.
-use mathlib.Core.Path.{refl}
 use native.Mathlib.Omega.{arith}
-use Rattle.joining.proofs.Looping.{looping_start}
-use Rattle.joining.proofs.Turning.{turn_choice, turn_writes, turn_fits, turn_some, turn_on_plate, turn_ends, turn_within, turn_left, turn_small, turn_same, turn_full, turn_querying, turn_flags, turn_next}
+use Rattle.path.specs.Waiting.{update_caching}
+use Rattle.history.specs.Cut.{points_cut}
+use Rattle.joining.proofs.Keeping.{long, pen_still, querying_cut}
+use Rattle.joining.proofs.Settling.{settled_lines}
+use Rattle.joining.proofs.Turning.{turn_apart, turn_fits, turn_some, turn_ends, turn_within, turn_left, turn_same, turn_full, turn_querying, turn_flags, turn_next}
 use Rattle.joining.proofs.join_waiting.Goals as goal
-
-pub loop-candidate-init : goal.loop-candidate-init
-loop-candidate-init c =
-    record {
-      grid = c.requires.grid;
-      same = (refl, refl, refl, refl, refl);
-      looping = looping_start _ _ _ _ _ _ _ _ _ _ c.requires.joining;
-    }
-
-pub choose_waiting-requires : goal.choose_waiting-requires
-choose_waiting-requires c = rw c.work.ensures (turn_choice _ _ _ _ _ _ _ c.loop-candidate.invariant)
-
-pub overflow_add-turn : goal.overflow_add-turn
-overflow_add-turn c =
-    omega (arith, turn_small _ _ _ _ _ _ _ c.loop-candidate.invariant c.in-Some.candidate (rw c.work.ensures at c.in-Some.ensures))
 
 pub enter-requires : goal.enter-requires
 enter-requires c =
     let h = c.loop-candidate.invariant in
-    let e = h.same.1 in
     let n = turn_within _ _ _ _ _ _ _ h c.in-Some.candidate (rw c.work.ensures at c.in-Some.ensures) in
     record {
-      writable = turn_writes _ _ _ _ _ _ _ h;
-      fits = rw e (turn_fits _ _ _ _ _ _ _ h);
+      fits = omega (arith, turn_fits _ _ _ _ _ _ _ h, h.same.1);
       some = turn_some _ _ _ _ _ _ _ h;
-      on_plate = turn_on_plate _ _ _ _ _ _ _ h;
       entry = (n.low, n.high);
       within = n.small;
       held = n.long;
@@ -49,10 +33,23 @@ settle-requires c =
     let e = c.in_ok-enter in
     let n = turn_within _ _ _ _ _ _ _ h r s in
     record {
-      querying = turn_querying _ _ _ _ _ _ _ h r s c.enter.new.writer _ e.ensures.same e.ensures.written e.ensures.adds (rw h.same.1 at e.ensures.written.fits);
+      querying =
+          querying_cut _ _ _ _ _ _ _ (long c.enter.new.writer (omega (arith, e.ensures.written.fits, e.ensures.same.1)))
+          (turn_querying _ _ _ _ _ _ _ h r s c.enter.new.writer _ e.ensures.same e.ensures.written e.ensures.adds (rw h.same.1 at e.ensures.written.fits));
       number = n.number;
       within = n.points;
       flags = turn_flags _ _ _ _ _ _ _ h r s c.enter.new.writer _ e.ensures.same e.ensures.written e.ensures.adds (rw h.same.1 at e.ensures.written.fits);
+    }
+
+pub invariant_of-writer : goal.invariant_of-writer
+invariant_of-writer c =
+    let h = c.loop-candidate.invariant in
+    let w = c.enter.new.writer in
+    let t = c.settle in
+    record {
+      pen =
+          pen_still _ _ _ _ _ _ _ _ w.pen t.ensures.kept
+          (omega (arith, turn_apart _ _ _ _ _ _ _ h, h.same.1, c.in_ok-enter.ensures.same.1)) t.auto.work;
     }
 
 pub loop-candidate-smaller : goal.loop-candidate-smaller
@@ -64,14 +61,20 @@ loop-candidate-preserved c =
     let h = c.loop-candidate.invariant in
     let r = c.in-Some.candidate in
     let s = rw c.work.ensures at c.in-Some.ensures in
-    let e = c.in_ok-enter in
+    let e = c.in_ok-enter.ensures in
+    let w = c.enter.new.writer in
+    let fits = rw h.same.1 at e.written.fits in
+    let query = turn_querying _ _ _ _ _ _ _ h r s w _ e.same e.written e.adds fits in
     let t = c.settle in
+    let n = turn_within _ _ _ _ _ _ _ h r s in
     record {
       grid = h.grid;
-      same = turn_same _ _ _ _ _ _ _ h r s c.enter.new.writer _ e.ensures.same e.ensures.written e.ensures.adds;
+      same = turn_same _ _ _ _ _ _ _ h r s w _ e.same e.written e.adds;
       looping =
-          turn_next _ _ _ _ _ _ _ h r s c.enter.new.writer _ e.ensures.same e.ensures.written e.ensures.adds (rw h.same.1 at e.ensures.written.fits)
-          t.new.work t.new.distances t.auto.work t.ensures.prepared t.ensures.kept t.ensures.flags t.ensures.lines;
+          turn_next _ _ _ _ _ _ _ h r s w _ e.same e.written e.adds fits t.new.work t.new.distances t.auto.work t.ensures.prepared t.ensures.kept
+          t.ensures.flags
+          (settled_lines _ _ _ _ _ _ _ _ query n.number _ _ _ (λ p d. (update_caching p _ _ _).contour d)
+          (rw (points_cut w.path.now w.count (long w (omega (arith, e.written.fits, e.same.1)))) at t.ensures.changed) t.ensures.above);
     }
 
 pub returns-clause-joined : goal.returns-clause-joined

@@ -10,4 +10,4 @@ pub overflow_sub-result : goal.overflow_sub-result
 overflow_sub-result c = omega (arith, zeros c.args.m.significand c.args.m.exponent c.requires.0 c.requires.1)
 
 pub returns : goal.returns
-returns c = normalize c.args.m.significand c.args.m.exponent c.requires.0 c.requires.1 c.requires.2
+returns c = rw c.from-zeros.ensures (normalize c.args.m.significand c.args.m.exponent c.requires.0 c.requires.1 c.requires.2)

@@ -1,10 +1,9 @@
 -- The contours are listed, and those listed are put in order.
 use Rattle.std.proofs.Common.{◌≤◌, map, length, take, sym, ap, ◌∙◌, take_at}
-use Rattle.std.proofs.lemmas.List.{length-map, take-append-le}
+use Rattle.std.proofs.lemmas.List.{length-map}
 use Rattle.rules.specs.HandedOver.{plate, plate_of, contours, over}
 use Rattle.start.specs.Oriented.{lead_of}
 use Rattle.packed_contours.specs.Packed.{packed, packed_sense}
-use Rattle.packed_contours.specs.Unpacked.{words_there}
 use Rattle.optimize.proofs.Steps.{no_order}
 use Rattle.optimize.proofs.optimize_path_order.Goals as goal
 
@@ -20,9 +19,3 @@ put_in_order-requires c =
     let l = c.list_contours-n.ensures in
     let ws = map packed (contours (plate_of c.args.checked.now.input)) in
     (ap (take c.list_contours-n.result) l.2 ∙ take_at ws _ c.list_contours-n.result (length-map (contours (plate_of c.args.checked.now.input)) packed ∙ sym l.1), sym c.in-Some.ensures)
-
-pub returns : goal.returns
-returns c =
-    let w = c.put_in_order.ensures in
-    let h : c.put_in_order.result ≤ length c.put_in_order.new.work = words_there _ _ _ w.0 w.1 in
-    record { count = w.0; words = take-append-le _ _ _ h ∙ w.1 }

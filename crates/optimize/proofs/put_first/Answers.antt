@@ -5,6 +5,7 @@ use Rattle.rules.specs.HandedOver.{Contour, contours}
 use Rattle.statement.specs.PathStatement.{Among}
 use Rattle.start.specs.Oriented.{contour_of, oriented_of}
 use Rattle.packed_contours.specs.Packed.{packed}
+use Rattle.packed_contours.proofs.Words.{word_forward, word_in_sense}
 use Rattle.optimize.proofs.Steps.{before_end, start_placed, start_among, first_state}
 use Rattle.optimize.proofs.put_first.Goals as goal
 
@@ -15,16 +16,9 @@ missed cs c words word e m f g =
     let h = before_end c cs (length words) m (λ j h x. g j h (ap (λ (ws : List ℕ). get_or ws j 0) e ∙ x ∙ sym f)) in
     absurd (omega (arith, ap length e, length-map cs packed))
 
-pub packed_word-requires : goal.packed_word-requires
+pub of-requires : goal.of-requires
 unfolding oriented_of contour_of
-packed_word-requires c =
-    let w = c.requires in
-    let k = start_placed w.0 _ w.3 w.2 in
-    (k.few, omega (arith, k.small))
-
-pub packed_sense-requires : goal.packed_sense-requires
-unfolding oriented_of contour_of
-packed_sense-requires c =
+of-requires c =
     let w = c.requires in
     let k = start_placed w.0 _ w.3 w.2 in
     (k.few, omega (arith, k.small))
@@ -37,10 +31,10 @@ returns-in-Some c = λ p e b a.
     let k = c.in-Some.k in
     first_state p work [] _ k _ _ a (e ∙ sym (append-nil (map packed (contours p)))) (ap length e ∙ length-map (contours p) packed) b (start_placed p _ a b)
     (omega (arith, f.0, ap length e, length-map (contours p) packed))
-    (ap (λ (ws : List ℕ). get_or ws k 0) (sym e) ∙ f.1 ∙ c.packed_word.ensures)
+    (ap (λ (ws : List ℕ). get_or ws k 0) (sym e) ∙ f.1 ∙ word_forward _ c.of.ensures c.into.ensures)
     (c.move_down.ensures
-    ∙ ap (λ (z : ℕ). take 0 work ++ (z ∷ (take (k - 0) (drop 0 work) ++ drop (k + 1) work))) c.packed_sense.ensures)
+    ∙ ap (λ (z : ℕ). take 0 work ++ (z ∷ (take (k - 0) (drop 0 work) ++ drop (k + 1) work))) (word_in_sense _ c.of-in-Some.ensures c.into-in-Some.ensures))
 
 pub returns-in_default : goal.returns-in_default
 unfolding oriented_of contour_of
-returns-in_default c = λ p e b a. absurd (missed (contours p) _ _ _ e (start_among p _ b) c.packed_word.ensures (c.in_default.ensures.missing refl))
+returns-in_default c = λ p e b a. absurd (missed (contours p) _ _ _ e (start_among p _ b) (word_forward _ c.of.ensures c.into.ensures) (c.in_default.ensures.missing refl))

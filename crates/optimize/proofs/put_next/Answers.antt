@@ -8,6 +8,7 @@ use Rattle.rules.specs.OrderAndStraight.{nearer_sense, nearer_end}
 use Rattle.rules.specs.declared.Point.{Point}
 use Rattle.start.specs.Oriented.{contour_of, oriented_of}
 use Rattle.packed_contours.specs.Packed.{packed}
+use Rattle.packed_contours.proofs.Words.{word_in_sense}
 use Rattle.optimize.specs.Choice.{choice_of, Stands}
 use Rattle.optimize.specs.State.{Continued}
 use Rattle.optimize.proofs.Steps.{winner_placed, waiting_words, next_state, order_stops}
@@ -34,9 +35,9 @@ returns-in_err-choice c =
     let q = c.last_end-q.ensures p refl in
     rw c.from_residual.ensures (order_stops p _ _ _ _ st (ap (λ (o : Point). foremost (layer_of p) nearer_end (map (nearer_sense p o) st.left)) (sym q) ∙ sym x))
 
-pub packed_sense-word-requires : goal.packed_sense-word-requires
+pub of-packed-requires : goal.of-packed-requires
 unfolding plate oriented_of contour_of choice_of
-packed_sense-word-requires c =
+of-packed-requires c =
     let p = plate_of c.args.checked.now.input in
     let st = c.requires.1 in
     let x = c.in_ok-choice.ensures.choice st.left (waiting_words p _ _ _ _ st) st.placed in
@@ -71,4 +72,4 @@ returns c =
     (ap (λ (us : List ℕ). get_or us i 0) (sym ws) ∙ n.place.1)
     (ap (λ (o : Point). foremost (layer_of p) nearer_end (map (nearer_sense p o) st.left)) (sym q) ∙ sym x)
     (c.move_down.ensures
-    ∙ ap (λ (z : ℕ). take done work ++ (z ∷ (take (done + i - done) (drop done work) ++ drop (done + i + 1) work))) c.packed_sense-word.ensures)
+    ∙ ap (λ (z : ℕ). take done work ++ (z ∷ (take (done + i - done) (drop done work) ++ drop (done + i + 1) work))) (word_in_sense _ c.of-packed.ensures c.into.ensures))

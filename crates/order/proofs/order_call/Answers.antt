@@ -47,9 +47,6 @@ returns-then-work-input c =
     let m = met_short (plate_of c.args.input.now) (length c.args.work.now) _ _ _ c.args.order.now c.args.work.now _ _ (sym c.in_ok-checked.ensures.answer) c.if-work-input.true in
     record { answer = m.0; order = m.1; work = m.2 }
 
-pub optimize_path_order-count-requires : goal.optimize_path_order-count-requires
-optimize_path_order-count-requires c = rw c.in_ok-checked.ensures.same c.if-work-input.false
-
 pub overflow_cast-result : goal.overflow_cast-result
 overflow_cast-result c = omega (arith, (count_few (ordered (goal.at.overflow_cast-result c).After-optimize_path_order-count)).0)
 

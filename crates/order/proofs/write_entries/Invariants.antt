@@ -3,8 +3,8 @@ use Rattle.std.proofs.Common.{length, take, ◌≡◌}
 use Rattle.rules.specs.HandedOver.{over}
 use Rattle.slices.specs.Pairs.{pairs}
 use Rattle.packed_contours.specs.Packed.{number_in}
-use Rattle.packed_contours.specs.Unpacked.{sense_in}
+use Rattle.order.specs.Senses.{told_sense}
 use Rattle.order.proofs.write_entries.Given as goal
 
 abbrev pub invariant-loop-i : goal.invariant-loop-i
-invariant-loop-i l = (length l.order ≡ length l.fn.order) × (l.order ≡ over (pairs number_in sense_in (take l.i l.words)) l.fn.order)
+invariant-loop-i l = (length l.order ≡ length l.fn.order) × (l.order ≡ over (pairs number_in told_sense (take l.i l.words)) l.fn.order)

@@ -16,15 +16,12 @@ pub returns-then-cut-gt63 : goal.returns-then-cut-gt63
 returns-then-cut-gt63 c =
     packs_zero c.args.q c.args.sticky c.args.e c.ulp_exponent-k.result c.requires.0 c.requires.1 c.requires.2 c.ulp_exponent-k.ensures c.if-cut-gt63.true
 
-pub float_from_bits-result : goal.float_from_bits-result
-float_from_bits-result c = not_nan _ (omega arith)
-
 pub returns-then-k-gt2045 : goal.returns-then-k-gt2045
 returns-then-k-gt2045 c =
     packs_infinity c.args.q c.args.sticky c.args.e c.ulp_exponent-k.result c.requires.0 c.requires.1 c.requires.2 c.ulp_exponent-k.ensures c.if-k-gt2045.true
 
-pub float_from_bits-result-2 : goal.float_from_bits-result-2
-float_from_bits-result-2 c =
+pub float_from_bits-result : goal.float_from_bits-result
+float_from_bits-result c =
     let k = c.ulp_exponent-k.result in
     not_nan (k * 4503599627370496 + c.rounded_shift.result)
     (bits_most k c.rounded_shift.result c.if-k-gt2045.false

@@ -1,23 +1,63 @@
--- `packed_contours::list_contours` meets its contract. Assumes nothing.
-use Rattle.std.proofs.Common.{arith}
-use Rattle.packed_contours.proofs.Listing.{begun, first_small, next_small, skip, store}
+-- `packed_contours::list_contours` meets its contract: a turn writes one contour from those that are left. Assumes nothing.
+use Rattle.std.proofs.Common.{◌≡◌, ◌<◌, List, sym, ap, subst, ◌∙◌, arith, length}
+use Rattle.rules.specs.Tools.{sum}
+use Rattle.rules.specs.HandedOver.{Contour, contours_of}
+use Rattle.path.specs.Lists.{All}
+use Rattle.start.specs.Oriented.{contour_of}
+use Rattle.start.specs.Left.{contours_left, Within, all_within}
+use Rattle.packed_contours.proofs.Listing.{Listed, few_contours, begun, n_few, whole, store}
+use Rattle.packed_contours.proofs.Words.{word_forward}
 use Rattle.packed_contours.proofs.list_contours.Goals as goal
-use Rattle.packed_contours.proofs.list_contours.Goals.{then-size-ne0, else-size-ne0}
+use Rattle.packed_contours.proofs.list_contours.Goals.{In-Some}
 
-pub loop-i-init : goal.loop-i-init
-loop-i-init c = begun _ _
+pub loop-c-init : goal.loop-c-init
+loop-c-init c =
+    let ns = c.args.lengths.now in
+    let e : contours_left c.into_iter-c-iterator.result ≡ contours_of ns =
+    ap contours_left c.into_iter-c-iterator.ensures.into_iter_gives ∙ c.of-c-items.ensures in
+    record {
+      can = tt;
+      ends = tt;
+      within = subst (All (Within (length ns) (sum ns))) (sym e) (all_within ns);
+      listed = subst (λ (left : List Contour). Listed (contours_of ns) left c.args.work.now c.args.work.now 0) (sym e) (begun (contours_of ns) c.args.work.now);
+    }
 
-pub overflow_add-work : goal.overflow_add-work
-overflow_add-work c = omega (arith, first_small _ _ _ _ _ _ c.loop-i.invariant)
+next_within : (c : In-Some) → Within (length c.args.lengths.now) (sum c.args.lengths.now) (contour_of c.in-Some.c)
+next_within c = (rw c.in-Some.ensures.steps at c.loop-c.invariant.within).0
 
-pub overflow_add-first : goal.overflow_add-first
-overflow_add-first c = omega (arith, next_small _ _ _ _ _ _ c.loop-i.invariant c.loop-i-test.true)
+-- a place is left for each contour that is
+place : (c : In-Some) → c.loop-c.n < length c.args.lengths.now
+place c =
+    omega (arith, n_few _ _ _ _ _ c.loop-c.invariant.listed, ap length c.in-Some.ensures.steps, few_contours 0 0 c.args.lengths.now)
 
-pub loop-i-preserved : goal.loop-i-preserved
-loop-i-preserved c =
-    let l = c.loop-i in
-    let h = c.loop-i-test.true in
-    elim c.if-size-ne0.branch [
-      | then-size-ne0 w ↦ rw (w.work-is, w.n-is) (store _ _ _ _ _ _ l.invariant h w.if-size-ne0.true (omega (arith, l.invariant.few)))
-      | else-size-ne0 w ↦ rw (w.work-is, w.n-is) (skip _ _ _ _ _ _ l.invariant h w.if-size-ne0.false)
-    ]
+pub of-requires : goal.of-requires
+unfolding contour_of
+of-requires c =
+    let w = next_within (goal.at.of-requires c).In-Some in
+    (omega (arith, w.number, c.requires.0), omega (arith, w.last, c.requires.1))
+
+pub bounds-work-n : goal.bounds-work-n
+bounds-work-n c = omega (arith, place (goal.at.bounds-work-n c).In-Some, c.requires.2, c.loop-c.invariant.listed.same)
+
+pub offset_bounds-work-n : goal.offset_bounds-work-n
+offset_bounds-work-n c = omega (arith, place (goal.at.offset_bounds-work-n c).In-Some, c.requires.0)
+
+pub overflow_add-n : goal.overflow_add-n
+overflow_add-n c = omega (arith, place (goal.at.overflow_add-n c).In-Some, c.requires.0)
+
+pub loop-c-preserved : goal.loop-c-preserved
+unfolding contour_of
+loop-c-preserved c =
+    let l = c.loop-c.invariant in
+    let e = c.in-Some.ensures.steps in
+    record {
+      can = tt;
+      ends = tt;
+      within = (rw e at l.within).1;
+      listed = store _ _ _ _ _ _ _ (rw e at l.listed) (omega (arith, place (goal.at.loop-c-preserved c).In-Some, c.requires.2)) (word_forward _ c.of.ensures c.into.ensures);
+    }
+
+pub returns : goal.returns
+returns c =
+    let w = whole _ _ _ _ _ c.loop-c.invariant.listed c.in-None.ensures.steps.0 in
+    (omega (arith, w.0, few_contours 0 0 c.args.lengths.now), w.0, w.1)

@@ -1,6 +1,16 @@
--- `packed_contours::list_contours`: the contours of the first i lengths are written.
+-- `packed_contours::list_contours`: those of the contours that are not left are written.
+use Rattle.std.proofs.Common.{length}
+use Rattle.rules.specs.Tools.{sum}
+use Rattle.rules.specs.HandedOver.{contours_of}
+use Rattle.path.specs.Lists.{All}
+use Rattle.start.specs.Left.{contours_left, Within}
 use Rattle.packed_contours.proofs.Listing.{Listed}
 use Rattle.packed_contours.proofs.list_contours.Given as goal
 
-abbrev pub invariant-loop-i : goal.invariant-loop-i
-invariant-loop-i l = Listed l.lengths l.fn.work l.work l.n l.first l.i
+abbrev pub invariant-loop-c : goal.invariant-loop-c
+invariant-loop-c l = record {
+  can : (goal.iterator-loop-c).can_next l.c-iterator;
+  ends : (goal.iterator-loop-c).is_finite l.c-iterator;
+  within : All (Within (length l.lengths) (sum l.lengths)) (contours_left l.c-iterator);
+  listed : Listed (contours_of l.lengths) (contours_left l.c-iterator) l.fn.work l.work l.n;
+}

@@ -14,7 +14,7 @@ returns-then-not-is_complete-clause-answer c = λ cs t.
     let a = c.args.checked.now in
     let f = c.in_default.ensures.none cs t refl in
     let even : length a.marks.now ≡ 2 * (length a.path.now / 2) = omega arith in
-    let says = rw c.first_failing.ensures.total at (c.if-not-is_complete.ensures cs a.marks.now _ even) in
+    let says = c.if-not-is_complete.ensures cs a.marks.now _ even in
     left_out cs _ _ _ _ _ (sym f.0) (sym (says f.1))
 
 pub returns-clause-answer : goal.returns-clause-answer
@@ -23,5 +23,5 @@ returns-clause-answer c = λ cs t.
     let a = c.args.checked.now in
     let f = c.in_default.ensures.none cs t refl in
     let even : length a.marks.now ≡ 2 * (length a.path.now / 2) = omega arith in
-    let says = rw c.first_failing.ensures.total at (c.if-not-is_complete.ensures cs a.marks.now _ even) in
+    let says = c.if-not-is_complete.ensures cs a.marks.now _ even in
     accepted cs _ _ _ _ (length a.path.now / 2) (sym f.0) (omega arith) (sym (says f.1))

@@ -7,6 +7,7 @@ use Rattle.path.specs.Accepted.{contours_gives}
 use Rattle.slices.specs.Outcome.{work_same}
 use Rattle.path_check.specs.Outcome.{unsound, odd_path, other_marks, short_work, divided, divided_frees}
 use Rattle.path_check.proofs.check_path.Goals as goal
+use Rattle.path_check.proofs.check_path.Goals.{then-path-ne0-via-then-path-ne0, then-path-ne0-via-else-path-ne0+then-marks-path}
 
 contours_total : (xs : List Float) (ns : List ℕ) (n : ℕ) → refused_by (contour_rows xs ns) (gives (sum ns)) ≡ gives n → n ≡ sum ns
 contours_total xs ns n sound = let e = (contours_gives xs ns (gives (sum ns)) n sound).1 in cc
@@ -21,13 +22,12 @@ pub returns-then-path-ne0 : goal.returns-then-path-ne0
 unfolding answer_of number_of place_of refusal
 returns-then-path-ne0 c =
     let sound = sym c.in_ok-total.ensures in
-    (odd_path _ _ _ _ _ _ _ sound (λ e. c.if-path-ne0.true (omega (arith, e))), work_same _ c.args.work.now)
-
-pub returns-then-marks-path : goal.returns-then-marks-path
-unfolding answer_of number_of place_of refusal
-returns-then-marks-path c =
-    let sound = sym c.in_ok-total.ensures in
-    (other_marks _ _ _ _ _ _ _ sound (omega (arith, c.if-path-ne0.false)) c.if-marks-path.true, work_same _ c.args.work.now)
+    elim c.then-path-ne0.branch [
+      | then-path-ne0-via-then-path-ne0 w ↦
+          (odd_path _ _ _ _ _ _ _ sound (λ e. w.if-path-ne0.true (omega (arith, e))), work_same _ c.args.work.now)
+      | then-path-ne0-via-else-path-ne0+then-marks-path w ↦
+          (other_marks _ _ _ _ _ _ _ sound (omega (arith, w.if-path-ne0.false)) w.if-marks-path.true, work_same _ c.args.work.now)
+    ]
 
 pub returns-then-work-total : goal.returns-then-work-total
 unfolding answer_of number_of place_of refusal
@@ -58,7 +58,7 @@ returns c =
     let sound = sym c.in_ok-total.ensures in
     let even : length a.path.now ≡ 2 * (length a.path.now / 2) = omega (arith, c.if-path-ne0.false) in
     let room : sum ns + length ns ≤ length a.work.now = omega (arith, contours_total _ _ _ sound, c.if-work-total.false) in (
-      c.check_division.ensures.answer (contours_of ns) (rw c.label-words.ensures.total (c.label-words.ensures.tallied a.marks.now))
+      c.check_division.ensures.answer (contours_of ns) (c.label-words.ensures.tallied a.marks.now)
           ∙ divided _ _ _ _ _ _ _ sound even c.if-marks-path.false room,
       divided_frees _ _ _ _ _ _ _ sound even c.if-marks-path.false room a.work.now _,
     )

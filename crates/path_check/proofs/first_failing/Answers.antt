@@ -9,7 +9,7 @@ returns-then-not-keeps_rules-clause-found c =
     let i = l.invariant in
     λ cs t.
     let p = i.kept cs t in
-    let r = rw (i.points, i.path, i.marks, i.total) at (c.if-not-keeps_rules.ensures.rules cs) in
+    let r = rw (i.points, i.path, i.marks) at (c.if-not-keeps_rules.ensures.rules cs) in
     (c.loop-i-test.true, sym (p.0 ∙ first_fail _ l.i _ c.loop-i-test.true (sym (r p.1))))
 
 pub loop-i-preserved : goal.loop-i-preserved
@@ -21,13 +21,11 @@ loop-i-preserved c =
       points = i.points;
       path = i.path;
       marks = i.marks;
-      total = c.tally.ensures.total ∙ i.total;
-      same = c.tally.ensures.same.0 ∙ i.same;
-      long = c.tally.ensures.same.1 ∙ i.long;
+      same = let s = c.tally.ensures.same in (s.0 ∙ i.same.0, s.1 ∙ i.same.1, s.2 ∙ i.same.2, s.3 ∙ i.same.3);
       kept = λ cs t.
           let p = i.kept cs t in
-          let r = rw (i.points, i.path, i.marks, i.total) at (c.if-not-keeps_rules.ensures.rules cs) in
-          let more = rw (i.marks, i.total) at (c.tally.ensures.tallied cs start.points.now start.path.now) in
+          let r = rw (i.points, i.path, i.marks) at (c.if-not-keeps_rules.ensures.rules cs) in
+          let more = rw i.marks at (c.tally.ensures.tallied cs start.points.now start.path.now) in
           let keeps = sym (r p.1) in
           (p.0 ∙ first_pass _ l.i _ c.loop-i-test.true keeps, rw add-one (more p.1 keeps));
     }

@@ -3,7 +3,7 @@ use Rattle.std.proofs.Common.{◌≡◌, List, ◌-◌, ◌/◌, length}
 use Rattle.rules.specs.Tools.{first_failing}
 use Rattle.rules.specs.HandedOver.{Contour}
 use Rattle.statement.specs.PathCheck.{keeps_rules}
-use Rattle.path_rules.specs.Tallied.{Tallied}
+use Rattle.path_rules.specs.Parts.{TalliedBy, SameWords}
 use Rattle.path_check.proofs.first_failing.Given as goal
 
 abbrev pub invariant-loop-i : goal.invariant-loop-i
@@ -14,11 +14,9 @@ invariant-loop-i l =
       points : l.checked.points.now ≡ start.points.now;
       path : l.checked.path.now ≡ start.path.now;
       marks : l.checked.marks.now ≡ start.marks.now;
-      total : l.checked.words.total ≡ start.words.total;
-      same : l.checked.words.work.ghost_name ≡ start.words.work.ghost_name;
-      long : length l.checked.words.work.now ≡ length start.words.work.now;
-      kept : (cs : List Contour) → Tallied cs start.words.total start.marks.now 0 start.words.work.now →
+      same : SameWords start.words l.checked.words;
+      kept : (cs : List Contour) → TalliedBy cs start.words start.marks.now 0 →
           (let test = keeps_rules cs start.points.now start.path.now start.marks.now in
           first_failing test 0 n ≡ first_failing test l.i (n - l.i))
-          × Tallied cs start.words.total start.marks.now l.i l.checked.words.work.now;
+          × TalliedBy cs l.checked.words start.marks.now l.i;
     }

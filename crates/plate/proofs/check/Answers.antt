@@ -1,8 +1,9 @@
 -- What refusals 1 to 3 let pass, refusals 13 and 4 test, the parked point's 4 before the contours'.
 use Rattle.std.proofs.Common.{false, [], ◌∷◌, ◌++◌, List, ◌≡◌, length, sym, arith}
+use Rattle.std.specs.Float.Ieee.{of_bits}
 use Rattle.std.proofs.lemmas.Result.{err_from_is_err_and}
 use Rattle.rules.specs.Tools.{sum}
-use Rattle.rules.specs.HandedOver.{RefusalRow, plate, plate_of, plate_rows, answer_of, gives, refused_by, bad_layer_count, bad_layer, off_the_plate, parked_coordinates, input_rows}
+use Rattle.rules.specs.HandedOver.{RefusalRow, plate, plate_of, plate_limit, plate_rows, answer_of, gives, refused_by, bad_layer_count, bad_layer, off_the_plate, parked_coordinates, input_rows}
 use Rattle.rules.specs.declared.Input.{Input}
 use Rattle.path.specs.Lists.{all_append}
 use Rattle.path.specs.Rows.{Passed, rows_pass}
@@ -11,7 +12,7 @@ use Rattle.plate.specs.Answer.{count_rows}
 use Rattle.plate.specs.Counted.{rows_counted}
 use Rattle.plate.proofs.Told.{passed, refuses_among}
 use Rattle.plate.proofs.check.Goals as goal
-use Rattle.plate.proofs.check.Goals.{In_ok-check_points}
+use Rattle.plate.proofs.check.Goals.{In_ok-check_range}
 
 abbrev counts : Input → List RefusalRow
 counts i = count_rows i.points.now i.lengths.now
@@ -63,38 +64,39 @@ returns-in_err-check_parked-clause-answer c =
     in
     rw (p.1, p.2) (refuses_among (counts i ++ layers i) (parked i) (points i) _ _ _ passes c.in_err-check_parked.ensures)
 
-pub check_points-requires : goal.check_points-requires
-check_points-requires c =
+pub check_range-requires : goal.check_range-requires
+check_range-requires c =
     let few = rows_counted _ _ (passed (counts c.args.input.now) _ _ c.in_ok-check_counts.ensures).0 in
     omega (arith, few.points, few.counted)
 
-pub returns-in_err-check_points-clause-answer : goal.returns-in_err-check_points-clause-answer
-unfolding plate input_rows count_rows
-returns-in_err-check_points-clause-answer c =
-    let p = err_from_is_err_and c.from_residual-in_err-check_points.result c.from_residual-in_err-check_points.ensures.1 in
+pub returns-in_err-check_range-clause-answer : goal.returns-in_err-check_range-clause-answer
+unfolding plate input_rows count_rows off_the_plate plate_limit of_bits
+returns-in_err-check_range-clause-answer c =
+    let p = err_from_is_err_and c.from_residual-in_err-check_range.result c.from_residual-in_err-check_range.ensures.1 in
     let i = c.args.input.now in
     let passes : Passed (counts i ++ (layers i ++ parked i)) =
     before_points i (passed (counts i) _ _ c.in_ok-check_counts.ensures).0 (passed (layers i) _ _ c.in_ok-check_layers.ensures).0
     (passed (parked i) _ _ c.in_ok-check_parked.ensures).0
     in
-    rw (p.1, p.2) (refuses_among (counts i ++ (layers i ++ parked i)) (points i) [] _ _ _ passes c.in_err-check_points.ensures)
+    rw (p.1, p.2) (refuses_among (counts i ++ (layers i ++ parked i)) (points i) [] _ _ _ passes c.in_err-check_range.ensures)
 
-all_passed : (c : In_ok-check_points) →
+all_passed : (c : In_ok-check_range) →
     refused_by (plate_rows (plate_of c.args.input.now)) (gives (sum c.args.input.now.lengths.now)) ≡ gives (sum c.args.input.now.lengths.now)
+unfolding off_the_plate plate_limit of_bits
 all_passed c =
     let i = c.args.input.now in
     whole i
     (before_points i (passed (counts i) _ _ c.in_ok-check_counts.ensures).0 (passed (layers i) _ _ c.in_ok-check_layers.ensures).0
     (passed (parked i) _ _ c.in_ok-check_parked.ensures).0)
-    (passed (points i) _ _ c.in_ok-check_points.ensures).0
+    (passed (points i) _ _ c.in_ok-check_range.ensures).0
 
 pub invariant_of-result : goal.invariant_of-result
 unfolding plate
 invariant_of-result c =
     let i = c.args.input.now in
-    let told = input_gives i.points.now i.lengths.now i.layers.now i.strategy _ _ (all_passed (goal.at.invariant_of-result c).In_ok-check_points) in
+    let told = input_gives i.points.now i.lengths.now i.layers.now i.strategy _ _ (all_passed (goal.at.invariant_of-result c).In_ok-check_range) in
     record { accepted = told.0; layered = told.1.counted }
 
 pub returns-clause-answer : goal.returns-clause-answer
 unfolding answer_of
-returns-clause-answer c = sym (all_passed (goal.at.returns-clause-answer c).In_ok-check_points)
+returns-clause-answer c = sym (all_passed (goal.at.returns-clause-answer c).In_ok-check_range)

@@ -1,15 +1,24 @@
 -- `point::distance_call` meets its contract.
-use Rattle.std.proofs.Common.{refl, arith, lt-ltb, le-ltb}
+use Rattle.std.proofs.Common.{[], ◌∷◌, sym}
+use Rattle.std.specs.Prelude.{Float}
 use Rattle.std.specs.Float.Ieee.{of_bits}
-use Rattle.rules.specs.Tools.{pick}
-use Rattle.rules.specs.HandedOver.{answer_of, distance_limit, number_of, place_of, refusal, refused_by, out_of_range}
+use Rattle.std.proofs.lemmas.Result.{err_from_is_err_and}
+use Rattle.rules.specs.HandedOver.{answer_of, gives, distance_limit, out_of_range}
 use Rattle.rules.specs.Calls.{distance_call}
+use Rattle.rules.specs.Distances.{distance_squared, distance}
+use Rattle.path.specs.Rows.{rows_give, rows_pass, refusal_refuses}
 use Rattle.point.proofs.distance_call.Goals as goal
 
-pub returns-in-Some : goal.returns-in-Some
-unfolding answer_of distance_limit of_bits distance_call number_of place_of refusal refused_by out_of_range pick
-returns-in-Some c = let f = c.in-Some.ensures.found in simp (← f.1, lt-ltb _ _ f.0)
+pub returns-in_err-check_range : goal.returns-in_err-check_range
+unfolding answer_of distance_limit of_bits distance_call
+returns-in_err-check_range c =
+    let p = err_from_is_err_and c.from_residual.result c.from_residual.ensures.1 in
+    rw (p.1, p.2) (refusal_refuses _ _ tt _ c.in_err-check_range.ensures)
 
-pub returns-in-None : goal.returns-in-None
-unfolding answer_of distance_limit of_bits distance_call refused_by out_of_range pick
-returns-in-None c = simp (c.in-None.ensures.none refl, le-ltb 4 4 (omega arith)) (cc)
+pub returns : goal.returns
+unfolding answer_of distance_limit of_bits distance_call
+returns c =
+    let rs = out_of_range distance_limit (c.args.a.x ∷ c.args.a.y ∷ c.args.b.x ∷ c.args.b.y ∷ []) ∷ [] in
+    let on = rows_give rs (gives tt) _ (sym c.in_ok-check_range.ensures) in
+    let both : Float × Float = (distance_squared c.args.a c.args.b, distance c.args.a c.args.b) in
+    simp (rows_pass rs on.0 (gives both)) (cc)

@@ -7,6 +7,7 @@ use lib.Ieee.Scale.{finite}
 use Rattle.rules.specs.Distances.{distance_squared}
 use Rattle.point.specs.Squares.{mul_unsigned, not_finite_sum, finite_unsigned}
 use Rattle.point.proofs.distance_squared.Goals as goal
+use Rattle.point.proofs.distance_squared.Goals.{then-not-is_finite-via-then-not-is_finite, then-not-is_finite-via-else-not-is_finite+then-not-is_finite-2}
 
 is_true : (b : Bool) → b ≡ true → T b
 is_true b h = rw h tt
@@ -26,16 +27,10 @@ unfolding distance_squared
 returns-then-not-is_finite c =
     let dx = sub binary64 c.args.p.x c.args.q.x in
     let dy = sub binary64 c.args.p.y c.args.q.y in
-    not_finite_sum binary64 dx (mul binary64 dy dy) (mul_unsigned binary64 dy)
-    (first_not dx (mul binary64 dy dy) (sym c.if-not-is_finite.ensures))
-
-pub returns-then-not-is_finite-2 : goal.returns-then-not-is_finite-2
-unfolding distance_squared
-returns-then-not-is_finite-2 c =
-    let dx = sub binary64 c.args.p.x c.args.q.x in
-    let dy = sub binary64 c.args.p.y c.args.q.y in
-    not_finite_sum binary64 dx (mul binary64 dy dy) (mul_unsigned binary64 dy)
-    (second_not dx (mul binary64 dy dy) (sym c.if-not-is_finite-2.ensures))
+    not_finite_sum binary64 dx (mul binary64 dy dy) (mul_unsigned binary64 dy) (elim c.then-not-is_finite.branch [
+      | then-not-is_finite-via-then-not-is_finite w ↦ first_not dx (mul binary64 dy dy) (sym w.if-not-is_finite.ensures)
+      | then-not-is_finite-via-else-not-is_finite+then-not-is_finite-2 w ↦ second_not dx (mul binary64 dy dy) (sym w.if-not-is_finite-2.ensures)
+    ])
 
 pub square_plus-requires : goal.square_plus-requires
 square_plus-requires c =

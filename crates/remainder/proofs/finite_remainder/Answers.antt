@@ -20,19 +20,19 @@ returns-then-a-b c =
     by_larger c.args.t c.args.s a.result.significand a.result.exponent b.result.significand b.result.exponent
     (subst T (sym c.well_formed.0.1) tt) c.requires.0 c.requires.1 a.ensures b.ensures (omega arith) c.if-a-b.true
 
-pub float_to_bits-t : goal.float_to_bits-t
-float_to_bits-t c = finite_not_nan c.args.t c.requires.0
+pub is_sign_positive-requires : goal.is_sign_positive-requires
+is_sign_positive-requires c = finite_not_nan c.args.t c.requires.0
 
-pub returns-then-t-lt-SIGN_BIT : goal.returns-then-t-lt-SIGN_BIT
-returns-then-t-lt-SIGN_BIT c =
+pub returns-then-is_sign_positive : goal.returns-then-is_sign_positive
+returns-then-is_sign_positive c =
     let a = c.magnitude_of-a in
     let b = c.magnitude_of-b in
     answer_above c.args.t c.args.s a.result.significand a.result.exponent b.result.significand b.result.exponent c.shifted_remainder-r.result c.float_of-magnitude.result
-    (subst T (sym c.well_formed.0.1) tt) c.requires.0 c.requires.1 a.ensures b.ensures (omega arith) c.if-a-b.false c.shifted_remainder-r.ensures c.float_of-magnitude.ensures c.if-t-lt-SIGN_BIT.true
+    c.requires.0 c.requires.1 a.ensures b.ensures (omega arith) c.if-a-b.false c.shifted_remainder-r.ensures c.float_of-magnitude.ensures c.if-is_sign_positive.ensures
 
-pub returns-else-t-lt-SIGN_BIT : goal.returns-else-t-lt-SIGN_BIT
-returns-else-t-lt-SIGN_BIT c =
+pub returns-else-is_sign_positive : goal.returns-else-is_sign_positive
+returns-else-is_sign_positive c =
     let a = c.magnitude_of-a in
     let b = c.magnitude_of-b in
     answer_below c.args.t c.args.s a.result.significand a.result.exponent b.result.significand b.result.exponent c.shifted_remainder-r.result c.float_of-magnitude.result
-    (subst T (sym c.well_formed.0.1) tt) c.requires.0 c.requires.1 a.ensures b.ensures (omega arith) c.if-a-b.false c.shifted_remainder-r.ensures c.float_of-magnitude.ensures c.if-t-lt-SIGN_BIT.false
+    c.requires.0 c.requires.1 a.ensures b.ensures (omega arith) c.if-a-b.false c.shifted_remainder-r.ensures c.float_of-magnitude.ensures c.if-is_sign_positive.ensures

@@ -3,4 +3,4 @@ use Rattle.results.proofs.Tellings.{start_told}
 use Rattle.results.proofs.start_result.Goals as goal
 
 pub returns : goal.returns
-returns c = rw c.told-number.ensures (start_told _)
+returns c = rw (c.from.ensures, c.told-number.ensures) (start_told _)

@@ -1,8 +1,10 @@
 -- The retrace call: what it answers and leaves in the slices is the rules', on each way out.
-use mathlib.Core.Path.{◌≡◌, sym}
+use mathlib.Core.Path.{◌≡◌, refl, sym}
 use Prim.Native.Nat.{◌+◌, ◌*◌, ◌≤◌}
 use native.Mathlib.Omega.{arith}
 use lib.ListN.{length}
+use Rattle.std.proofs.Common.{Result, Ok, Err}
+use Rattle.std.specs.Result.{result_or}
 use Rattle.std.proofs.lemmas.Result.{err_from_is_err_and}
 use Rattle.rules.specs.Tools.{sum}
 use Rattle.rules.specs.HandedOver.{plate, plate_of, gives, number_of, place_of, refusal, refused_by, plate_rows, retrace_work, answer_of, retrace_room}
@@ -44,6 +46,15 @@ wrote : (c : After-join_retrace) →
     a.marks.now c.join_retrace.new.marks
 wrote c = rw (c.in_ok-checked.ensures.same, room_is (goal.at.After-join_retrace c).After-min-room) at c.join_retrace.ensures.wrote
 
+-- what the joining gave, where the call goes on, and where it does not
+joined : {T E D : Type 0} (r : Result T E) (d : D) (n : T) → Ok n ≡ result_or r (Err d) → r ≡ Ok n
+joined (Ok x) d n h = cc
+joined (Err e) d n h = cc
+
+not_joined : {T E D : Type 0} (r : Result T E) (d f : D) → Err f ≡ result_or r (Err d) → (e : E) × (r ≡ Err e) × (f ≡ d)
+not_joined (Ok x) d f h = cc
+not_joined (Err e) d f h = (e, refl, cc)
+
 pub returns-in_err-checked : goal.returns-in_err-checked
 unfolding answer_of refusal
 returns-in_err-checked c =
@@ -75,31 +86,34 @@ returns-then-distances-input c =
     (met_short_distances p a.path.now a.marks.now a.work.now a.distances.now _ _
     (sound at.After-min-room) (enough at.Else-work-work_needed) c.if-distances-input.true)
 
-pub returns-in-Err : goal.returns-in-Err
+pub returns-in_err-n : goal.returns-in_err-n
 unfolding answer_of retrace_work number_of place_of refusal plate
-returns-in-Err c =
+returns-in_err-n c =
     let a = c.args in
     let i = a.input.now in
     let p = plate_of i in
-    let at = goal.at.returns-in-Err c in
+    let at = goal.at.returns-in_err-n c in
     let r = room_is at.After-min-room in
-    rw r
+    let q = err_from_is_err_and c.from_residual-in_err-n.result c.from_residual-in_err-n.ensures.1 in
+    let e = not_joined c.join_retrace.result _ _ c.in_err-n.ensures in
+    rw (q.1, q.2, e.2, r)
     (whole i.points.now i.lengths.now i.layers.now i.width i.height i.strategy c.work_needed.ensures.floats a.path.now a.marks.now a.work.now a.distances.now _ _ _ _ _
     (met_full p a.path.now a.marks.now a.work.now a.distances.now _ _
-    (sound at.After-min-room) (enough at.Else-work-work_needed) c.if-distances-input.false _ _ _ _ _ (rw c.in-Err.is at (wrote at.After-join_retrace))
+    (sound at.After-min-room) (enough at.Else-work-work_needed) c.if-distances-input.false _ _ _ _ _ (rw e.1 at (wrote at.After-join_retrace))
     (omega arith)))
 
-pub returns-in-Ok : goal.returns-in-Ok
+pub returns : goal.returns
 unfolding answer_of retrace_work plate
-returns-in-Ok c =
+returns c =
     let a = c.args in
     let i = a.input.now in
     let p = plate_of i in
-    let at = goal.at.returns-in-Ok c in
+    let at = goal.at.returns c in
     let r = room_is at.After-min-room in
-    let n = c.in-Ok.ensures.fits in
+    let e = joined c.join_retrace.result _ _ c.in_ok-n.ensures in
+    let n = rw e at c.join_retrace.ensures.fits in
     let k = c.count_marks.ensures in
-    let w = rw c.in-Ok.is at (wrote at.After-join_retrace) in
+    let w = rw e at (wrote at.After-join_retrace) in
     whole i.points.now i.lengths.now i.layers.now i.width i.height i.strategy c.work_needed.ensures.floats a.path.now a.marks.now a.work.now a.distances.now _ _ _ _ _
     (met_whole p a.path.now a.marks.now a.work.now a.distances.now _ _
     (sound at.After-min-room) (enough at.Else-work-work_needed) c.if-distances-input.false _ _ _ _ _ w (omega (arith, n, r))

@@ -7,10 +7,10 @@ pub returns-in_default : goal.returns-in_default
 unfolding beyond
 returns-in_default c = rw c.in_default.is
 
-pub returns-then-ring-lt2 : goal.returns-then-ring-lt2
+pub returns-then-ring-ge2 : goal.returns-then-ring-ge2
 unfolding beyond
-returns-then-ring-lt2 c = rw (c.in-Found.is, lt-leb 2 _ c.if-ring-lt2.true)
+returns-then-ring-ge2 c = rw (c.in-Found.is, le-leb 2 _ c.if-ring-ge2.true, c.ring_bound.ensures)
 
-pub returns : goal.returns
+pub returns-else-ring-ge2 : goal.returns-else-ring-ge2
 unfolding beyond
-returns c = rw (c.in-Found.is, le-leb 2 _ c.if-ring-lt2.false, c.ring_bound.ensures)
+returns-else-ring-ge2 c = rw (c.in-Found.is, lt-leb 2 _ c.if-ring-ge2.false)

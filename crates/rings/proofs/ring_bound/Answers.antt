@@ -1,8 +1,7 @@
 -- `rings::ring_bound`: the code is the definition.
-use mathlib.Core.Path.{refl}
 use Rattle.rules.specs.GridAndNearest.{bound}
 use Rattle.rings.proofs.ring_bound.Goals as goal
 
 pub returns : goal.returns
 unfolding bound
-returns c = refl
+returns c = rw c.from.ensures

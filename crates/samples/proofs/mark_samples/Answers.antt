@@ -1,31 +1,14 @@
--- A turn marks one contour more.
-use Rattle.std.proofs.Common.{refl, arith}
-use Rattle.plate.specs.Reading.{sum_step}
-use Rattle.samples.proofs.Marking.{run_some, run_none, so_far_step, so_far_done}
+-- The next contour lies within the vertices.
+use Rattle.std.proofs.Common.{arith}
+use Rattle.start.specs.Oriented.{contour_of}
 use Rattle.samples.proofs.mark_samples.Goals as goal
-use Rattle.samples.proofs.mark_samples.Goals.{then-size-ne0, else-size-ne0}
 
 pub arc_length_sample_indices-requires : goal.arc_length_sample_indices-requires
+unfolding contour_of
 arc_length_sample_indices-requires c =
-    let l = c.loop-number in
-    let t = sum_step c.args.lengths.now l.number c.loop-number-test.true in (
-      omega (arith, c.requires.0, c.loop-number-test.true),
-      omega (arith, l.invariant.total, t, c.requires.1, l.auto.owners),
-      omega (arith, c.requires.2, l.auto.owners),
-      omega (arith, c.requires.3, l.auto.owners),
+    let a = (rw c.in-Some.ensures.steps at c.loop-c.invariant.marked).ahead in (
+      omega (arith, c.requires.0, a),
+      omega (arith, c.requires.1, a, c.loop-c.auto.owners),
+      omega (arith, c.requires.2, c.loop-c.auto.owners),
+      omega (arith, c.requires.3, c.loop-c.auto.owners),
     )
-
-pub overflow_add-first : goal.overflow_add-first
-overflow_add-first c =
-    omega (arith, c.loop-number.invariant.total, sum_step c.args.lengths.now c.loop-number.number c.loop-number-test.true, c.requires.1, c.requires.2)
-
-pub loop-number-preserved : goal.loop-number-preserved
-loop-number-preserved c =
-    so_far_step _ _ _ _ _ _ c.loop-number.number c.loop-number.invariant c.loop-number-test.true _ refl
-    (elim c.if-size-ne0.branch [
-      | then-size-ne0 w ↦ rw w.owners-is (run_some _ _ _ _ _ _ w.if-size-ne0.true refl w.arc_length_sample_indices.ensures)
-      | else-size-ne0 w ↦ rw w.owners-is (run_none _ _ _ _ _ _ w.if-size-ne0.false)
-    ])
-
-pub returns : goal.returns
-returns c = so_far_done _ _ _ _ _ _ c.loop-number.invariant c.loop-number-test.false

@@ -1,6 +1,11 @@
--- The contours before contour `number` are marked.
+-- The contours that are not left are marked.
+use Rattle.start.specs.Left.{contours_left}
 use Rattle.samples.proofs.Marking.{SoFar}
 use Rattle.samples.proofs.mark_samples.Given as goal
 
-abbrev pub invariant-loop-number : goal.invariant-loop-number
-invariant-loop-number l = SoFar l.points l.resolution l.lengths l.owners l.first l.number
+abbrev pub invariant-loop-c : goal.invariant-loop-c
+invariant-loop-c l = record {
+  can : (goal.iterator-loop-c).can_next l.c-iterator;
+  ends : (goal.iterator-loop-c).is_finite l.c-iterator;
+  marked : SoFar l.points l.resolution l.lengths l.owners (contours_left l.c-iterator);
+}

@@ -1,10 +1,11 @@
 -- The rows that refuse, and behind them what leads.
-use Rattle.std.proofs.Common.{◌≡◌, Option, Some, None, sym, ap, ◌∙◌}
+use Rattle.std.proofs.Common.{◌≡◌, Option, Some, None, sym, ap, ◌∙◌, rules}
 use Rattle.std.proofs.lemmas.Result.{err_from_is_err_and}
 use Rattle.rules.specs.HandedOver.{answer_of, number_of, place_of, refusal, plate_of, plate_rows}
 use Rattle.rules.specs.Calls.{start_or, start_call}
 use Rattle.rules.specs.Start.{start}
 use Rattle.rules.specs.declared.Input.{Input}
+use Rattle.rules.specs.declared.Refusal.TheVariants.{Blank}
 use Rattle.path.specs.Rows.{rows_give, rows_pass, refusal_refuses}
 use Rattle.start.specs.Oriented.{contour_of, oriented_of, lead_of}
 use Rattle.start.specs.declared.Oriented.{Oriented}
@@ -25,10 +26,14 @@ behind c lead e =
     ap start_or (e ∙ ap (λ (i : Input). start (plate_of i)) c.in_ok-checked.ensures.same)
     ∙ sym (rows_pass (plate_rows (plate_of c.args.input.now)) (rows_give _ _ _ (sym c.in_ok-checked.ensures.answer)).0 _)
 
-pub returns-in_default : goal.returns-in_default
+pub returns-in_err-s : goal.returns-in_err-s
 unfolding answer_of number_of place_of refusal start_or lead_of
-returns-in_default c = behind (goal.at.returns-in_default c).In_ok-checked None c.in_default.ensures
+returns-in_err-s c =
+    let p = err_from_is_err_and c.from_residual-in_err-s.result c.from_residual-in_err-s.ensures.1 in
+    let none : c.choose_start_contour.result ≡ None = c.in_err-s.ensures.ok_part in
+    let blank : c.in_err-s.field-0.0 ≡ Blank = search rules in
+    rw (p.1, p.2, blank) (behind (goal.at.returns-in_err-s c).In_ok-checked None (rw none at c.choose_start_contour.ensures))
 
 pub returns : goal.returns
 unfolding answer_of start_or lead_of oriented_of contour_of
-returns c = behind (goal.at.returns c).In_ok-checked (Some c.in-Some.s) c.in-Some.ensures
+returns c = behind (goal.at.returns c).In_ok-checked (Some c.in_ok-s.s) (rw c.in_ok-s.ensures.ok_part at c.choose_start_contour.ensures)

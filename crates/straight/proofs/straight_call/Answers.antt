@@ -54,9 +54,6 @@ returns-then-work-input c =
     let m = met_short (plate_of c.args.input.now) (length c.args.work.now) _ _ _ c.args.path.now c.args.work.now _ _ (sym c.in_ok-checked.ensures.answer) c.if-work-input.true in
     record { answer = m.0; path = m.1; work = m.2 }
 
-pub join_straight_line-requires : goal.join_straight_line-requires
-join_straight_line-requires c = rw c.in_ok-checked.ensures.same c.if-work-input.false
-
 pub returns-then-room-count : goal.returns-then-room-count
 unfolding answer_of straight_call straight_room plate number_of place_of refusal
 returns-then-room-count c =

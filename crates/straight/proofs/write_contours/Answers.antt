@@ -1,11 +1,9 @@
 -- A turn draws one contour more.
-use Rattle.std.proofs.Common.{List, ℕ, ◌/◌, Float, length, take, get_or, eqb, sym, ap, ◌∙◌}
+use Rattle.std.proofs.Common.{◌≡◌, List, ℕ, ◌/◌, Float, length, take, get_or, refl, sym, ap, ◌∙◌}
 use Rattle.std.proofs.Math.Seq.{take_all}
 use Rattle.rules.specs.HandedOver.{over}
 use Rattle.rules.specs.RetraceAndMarks.{coordinates}
 use Rattle.path.specs.Ordering.{run_length}
-use Rattle.packed_contours.specs.Packed.{number_in, first_in}
-use Rattle.packed_contours.specs.Unpacked.{sense_in}
 use Rattle.slices.specs.Pairs.{coordinates_take}
 use Rattle.straight.specs.Runs.{run, run_of, runs}
 use Rattle.straight.proofs.Drawing.{drawn_none, drawn_more, runs_next}
@@ -23,10 +21,13 @@ loop-word-preserved c =
     let ws = c.args.words.now in
     let e = c.write-count.ensures in
     let w = get_or ws l.word-index 0 in
-    let n = run_length (eqb (sense_in w) 1) (first_in w) (get_or ns (number_in w) 0) in
-    rw (runs_next ns ws l.word-index c.loop-word-test.true)
+    let f = c.from-packed.ensures in
+    let packed = c.from-packed.result in
+    let size = get_or ns packed.number 0 in
+    let drawn : run_of ns w ≡ run packed.reversed packed.first.0 size = rw (f.0, f.1, f.2) refl in
+    rw (runs_next ns ws l.word-index c.loop-word-test.true, drawn)
     (drawn_more c.args.points.now (runs ns (take l.word-index ws)) c.args.path.now l.path l.count l.invariant
-    (run_of ns w) c.write-count.result c.write-count.new.part (rw n e.count) e.written)
+    (run packed.reversed packed.first.0 size) c.write-count.result c.write-count.new.part (rw (run_length packed.reversed packed.first.0 size) e.count) e.written)
 
 pub returns : goal.returns
 returns c =

@@ -1,19 +1,19 @@
--- `words::parse` gives the number that sixteen digits spell.
+-- `words::parse` gives the number that digits spell.
 use Rattle.std.proofs.Common.{sym, arith}
 use Rattle.words.proofs.Spelling.{fits_word, read_more, read_no_digit, read_all}
 use Rattle.words.proofs.parse.Goals as goal
 
 pub returns-in_default : goal.returns-in_default
-returns-in_default c = read_no_digit _ _ c.requires _ _ 16 c.loop-k.invariant c.loop-k-test.true (sym c.in_default.ensures) (omega arith)
+returns-in_default c = read_no_digit _ c.requires _ _ 16 c.loop-b.invariant c.loop-b-test.true (sym c.in_default.ensures) (omega arith)
 
 pub overflow_mul-value : goal.overflow_mul-value
-overflow_mul-value c = omega (arith, fits_word _ _ c.loop-k.invariant.1 c.loop-k-test.true)
+overflow_mul-value c = omega (arith, fits_word _ _ c.loop-b.invariant.1 (omega (arith, c.requires, c.loop-b-test.true)))
 
 pub overflow_add-value : goal.overflow_add-value
-overflow_add-value c = omega (arith, c.in-Some.ensures.1, fits_word _ _ c.loop-k.invariant.1 c.loop-k-test.true)
+overflow_add-value c = omega (arith, c.in-Some.ensures.1, fits_word _ _ c.loop-b.invariant.1 (omega (arith, c.requires, c.loop-b-test.true)))
 
-pub loop-k-preserved : goal.loop-k-preserved
-loop-k-preserved c = read_more _ _ c.requires _ _ _ c.loop-k.invariant c.loop-k-test.true c.in-Some.ensures.0 c.in-Some.ensures.1
+pub loop-b-preserved : goal.loop-b-preserved
+loop-b-preserved c = read_more _ c.requires _ _ _ c.loop-b.invariant c.loop-b-test.true c.in-Some.ensures.0 c.in-Some.ensures.1
 
 pub returns : goal.returns
-returns c = read_all _ _ c.requires _ _ c.loop-k.invariant c.loop-k-test.false
+returns c = read_all _ c.requires _ _ c.loop-b.invariant c.loop-b-test.false

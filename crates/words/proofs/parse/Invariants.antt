@@ -2,5 +2,5 @@
 use Rattle.words.proofs.Spelling.{Read}
 use Rattle.words.proofs.parse.Given as goal
 
-abbrev pub invariant-loop-k : goal.invariant-loop-k
-invariant-loop-k l = Read l.text l.from l.value l.k
+abbrev pub invariant-loop-b : goal.invariant-loop-b
+invariant-loop-b l = Read l.digits l.value l.b-index

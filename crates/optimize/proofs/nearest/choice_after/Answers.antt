@@ -11,25 +11,25 @@ use Rattle.optimize.specs.Choice.{choice_of, Stands}
 use Rattle.optimize.proofs.Choices.{later, lead_lower, lead_alike}
 use Rattle.optimize.proofs.nearest.choice_after.Goals as goal
 
-pub returns-then-leaves : goal.returns-then-leaves
-returns-then-leaves c = record { leads = c.if-leaves.ensures.same refl; stands = λ ws s h e. later ws _ _ s }
+pub returns-then-leaves-clause-stands : goal.returns-then-leaves-clause-stands
+returns-then-leaves-clause-stands c = λ ws s h e. later ws _ _ s
 
-pub returns-then-c-lowest : goal.returns-then-c-lowest
-unfolding choice_of leads Stands
-returns-then-c-lowest c =
+pub returns-then-c-lowest-clause-leads : goal.returns-then-c-lowest-clause-leads
+unfolding choice_of leads
+returns-then-c-lowest-clause-leads c =
     let n = c.nearer_sense-oriented.ensures in
-    record {
-      leads = λ p e l k. ap (λ (s : Oriented). some s) (n.nearer p e) ∙ lead_lower p _ _ _ (omega (arith, c.if-c-lowest.true));
-      stands = λ ws s h e. (omega arith, e ∙ ap (λ (d : Contour). packed (contour_of d)) (sym n.contour));
-    }
+    λ p e l k. ap (λ (s : Oriented). some s) (n.nearer p e) ∙ lead_lower p _ _ _ (omega (arith, c.if-c-lowest.true))
 
-pub returns : goal.returns
-returns c =
+pub returns-then-c-lowest-clause-stands : goal.returns-then-c-lowest-clause-stands
+unfolding Stands
+returns-then-c-lowest-clause-stands c =
     let n = c.nearer_sense-oriented.ensures in
-    record {
-      leads = λ p e l k.
-          c.nearer.ensures.leads
-          ∙ ap (leads nearer_end (choice_of c.args.best)) (n.nearer p e)
-          ∙ lead_alike p _ _ _ (omega (arith, c.if-c-lowest.false, c.if-leaves.ensures.low refl));
-      stands = λ ws s h e. c.nearer.ensures.stands ws s h (e ∙ ap (λ (d : Contour). packed (contour_of d)) (sym n.contour));
-    }
+    λ ws s h e. (omega arith, e ∙ ap (λ (d : Contour). packed (contour_of d)) (sym n.contour))
+
+pub returns-clause-leads : goal.returns-clause-leads
+returns-clause-leads c =
+    let n = c.nearer_sense-oriented.ensures in
+    λ p e l k.
+    c.nearer.ensures.leads
+    ∙ ap (leads nearer_end (choice_of c.args.best)) (n.nearer p e)
+    ∙ lead_alike p _ _ _ (omega (arith, c.if-c-lowest.false, c.if-leaves.ensures.low refl))

@@ -1,13 +1,14 @@
 -- What `keeps_rules` returns, by the kind of the mark.
 use Rattle.std.proofs.Common.{◌≡◌, ℕ, suc, ◌-◌, List, sym, ◌∙◌, ap, subst, inr, arith}
-use borrow.Author.Tests.{ne_eqb}
+use Rattle.std.proofs.lemmas.Bool.{eqb-true}
+use borrow.Author.Tests.{eq-eqb}
 use Rattle.rules.specs.HandedOver.{Contour, at}
 use Rattle.rules.specs.RetraceAndMarks.{landing_kind}
 use Rattle.rules.specs.Marks.{kind_of, reference_of}
 use Rattle.statement.specs.PathStatement.{kind_at}
 use Rattle.path_rules.specs.Tallied.{Tallied}
-use Rattle.path_rules.proofs.MarkKinds.{no_start_kind, no_cut_kind, no_back_kind}
-use Rattle.path_rules.proofs.ByKind.{keeps_start, no_start, keeps_cut, keeps_back, keeps_landing, no_landing, no_kind}
+use Rattle.path_rules.proofs.MarkKinds.{no_start_kind, Landing, landing_reference, landing_no_cut, landing_no_back, equal_by_kind}
+use Rattle.path_rules.proofs.ByKind.{keeps_start, no_start, keeps_cut, keeps_back, keeps_landing, no_landing, late_start, no_kind}
 use Rattle.path_rules.proofs.MarkedPath.keeps_rules.Goals as goal
 
 -- the words before path point i, as those after path point i − 1
@@ -23,7 +24,7 @@ returns-in-Start-clause-rules c =
     let n = c.in-Some.ensures.numbers in
     λ cs t.
     c.lands_fresh.ensures.fresh cs _ t
-    ∙ keeps_start cs _ _ _ c.args.i _ c.if-i-eq0.true (sym n.0 ∙ ap kind_of c.in-Start.is) (c.reference.ensures ∙ n.1)
+    ∙ keeps_start cs _ _ _ c.args.i _ c.if-i-eq0.true (sym n.0 ∙ ap kind_of c.in-Start.is) (sym (ap reference_of c.in-Start.is) ∙ n.1)
 
 pub returns-in_default-mark-clause-rules : goal.returns-in_default-mark-clause-rules
 returns-in_default-mark-clause-rules c =
@@ -35,7 +36,7 @@ returns-in-Cut-clause-rules c =
     let n = c.in-Some.ensures.numbers in
     λ cs t.
     c.cuts_fresh.ensures.fresh cs _ (tallied_after cs _ _ c.args.i _ c.if-i-eq0.false t)
-    ∙ keeps_cut cs _ _ _ c.args.i _ c.if-i-eq0.false (sym n.0 ∙ ap kind_of c.in-Cut.is) (c.reference.ensures ∙ n.1)
+    ∙ keeps_cut cs _ _ _ c.args.i _ c.if-i-eq0.false (sym n.0 ∙ ap kind_of c.in-Cut.is) (sym (ap reference_of c.in-Cut.is) ∙ n.1)
 
 pub returns-in-BackStep-clause-rules : goal.returns-in-BackStep-clause-rules
 returns-in-BackStep-clause-rules c =
@@ -44,30 +45,35 @@ returns-in-BackStep-clause-rules c =
     c.reverses.ensures
     ∙ keeps_back cs _ _ _ c.args.i _ c.if-i-eq0.false (sym n.0 ∙ ap kind_of c.in-BackStep.is) (sym (ap reference_of c.in-BackStep.is) ∙ n.1)
 
-pub returns-then-kind : goal.returns-then-kind
-returns-then-kind c =
+pub returns-in-Start-mark-clause-rules : goal.returns-in-Start-mark-clause-rules
+returns-in-Start-mark-clause-rules c =
     let n = c.in-Some.ensures.numbers in
-    let left = c.in_default-mark-2 in
+    λ cs t. late_start cs _ _ _ c.args.i c.if-i-eq0.false (sym n.0 ∙ ap kind_of c.in-Start-mark.is)
+
+pub returns-then-eq-clause-rules : goal.returns-then-eq-clause-rules
+returns-then-eq-clause-rules c =
+    let n = c.in-Some.ensures.numbers in
+    let m = c.in-Some.mark in
+    let v = c.in-Jump.v in
+    let here : Landing m v = inr c.in-Jump.is in
+    let equal = equal_by_kind m c.landing_mark.result v c.in-Jump.is (sym c.landing_mark.ensures.reference) in
+    let same = eqb-true (kind_of m) (kind_of c.landing_mark.result) (cc) in
     let landing : kind_at c.args.self.now.marks.now c.args.i ≡ landing_kind (at c.args.self.now.path.now (c.args.i - 1)) (at c.args.self.now.path.now c.args.i) =
     cc
     in
-    record {
-      rules = λ cs t.
-          c.lands_fresh-then-kind.ensures.fresh cs _ t
-          ∙ keeps_landing cs _ _ _ c.args.i _ c.if-i-eq0.false (λ e. no_cut_kind c.in-Some.mark left.not-Cut (n.0 ∙ e))
-          (λ e. no_back_kind c.in-Some.mark left.not-BackStep (n.0 ∙ e)) landing (c.reference.ensures ∙ n.1);
-      named = λ e. inr (omega (arith, c.lands_fresh-then-kind.ensures.named e, c.reference.ensures, n.1));
-    }
+    λ cs t.
+    c.lands_fresh-then-eq.ensures.fresh cs _ t
+    ∙ keeps_landing cs _ _ _ c.args.i _ c.if-i-eq0.false (λ e. landing_no_cut m v here (n.0 ∙ e)) (λ e. landing_no_back m v here (n.0 ∙ e)) landing
+    (sym (landing_reference m v here) ∙ n.1)
 
-pub returns-else-kind : goal.returns-else-kind
-returns-else-kind c =
+pub returns-else-eq-clause-rules : goal.returns-else-eq-clause-rules
+returns-else-eq-clause-rules c =
     let n = c.in-Some.ensures.numbers in
-    let left = c.in_default-mark-2 in
-    let other = ne_eqb c.kind.result c.kind-in_default-mark-2.result c.if-kind.false in
-    record {
-      rules = λ cs t.
-          other
-          ∙ no_landing cs _ _ _ c.args.i c.if-i-eq0.false (λ e. no_cut_kind c.in-Some.mark left.not-Cut (n.0 ∙ e))
-          (λ e. no_back_kind c.in-Some.mark left.not-BackStep (n.0 ∙ e)) (λ e. c.if-kind.false (cc));
-      named = λ e. cc;
-    }
+    let m = c.in-Some.mark in
+    let v = c.in-Jump.v in
+    let here : Landing m v = inr c.in-Jump.is in
+    let equal = equal_by_kind m c.landing_mark.result v c.in-Jump.is (sym c.landing_mark.ensures.reference) in
+    λ cs t.
+    c.if-eq.false
+    ∙ no_landing cs _ _ _ c.args.i c.if-i-eq0.false (λ e. landing_no_cut m v here (n.0 ∙ e)) (λ e. landing_no_back m v here (n.0 ∙ e))
+    (λ e. let same = eq-eqb (kind_of m) (kind_of c.landing_mark.result) (cc) in cc)

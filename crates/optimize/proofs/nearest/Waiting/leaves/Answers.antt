@@ -6,5 +6,5 @@ use Rattle.optimize.proofs.nearest.Waiting.leaves.Goals as goal
 pub returns-then-lowest-self-clause-same : goal.returns-then-lowest-self-clause-same
 returns-then-lowest-self-clause-same c = λ t p e l k. lead_higher p _ _ _ (omega (arith, c.if-lowest-self.true))
 
-pub returns-clause-same : goal.returns-clause-same
-returns-clause-same c = λ t p e l k. sym (c.is_passed_over.ensures t p e) ∙ lead_alike p _ _ _ (omega (arith, c.if-self-lowest.false, c.if-lowest-self.false))
+pub returns-then-lowest-self-2-clause-same : goal.returns-then-lowest-self-2-clause-same
+returns-then-lowest-self-2-clause-same c = λ t p e l k. sym (c.is_passed_over.ensures t p e) ∙ lead_alike p _ _ _ (omega (arith, c.if-lowest-self-2.true))

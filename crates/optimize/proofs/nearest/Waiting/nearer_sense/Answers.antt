@@ -3,20 +3,14 @@ use Rattle.start.specs.Agrees.{oriented_is}
 use Rattle.optimize.proofs.Choices.{forward_nearer, reverse_nearer}
 use Rattle.optimize.proofs.nearest.Waiting.nearer_sense.Goals as goal
 
-pub returns-then-forward-reverse : goal.returns-then-forward-reverse
-returns-then-forward-reverse c =
+pub returns-then-forward-reverse-clause-nearer : goal.returns-then-forward-reverse-clause-nearer
+returns-then-forward-reverse-clause-nearer c =
     let f = c.orient-forward.ensures in
     let r = c.orient-reverse.ensures in
-    record {
-      contour = f.0;
-      nearer = λ p e. forward_nearer p _ _ _ _ (oriented_is p _ _ _ _ _ e f.0 f.1 f.2) (oriented_is p _ _ _ _ _ e r.0 r.1 r.2) c.if-forward-reverse.true;
-    }
+    λ p e. forward_nearer p _ _ _ _ (oriented_is p _ _ _ _ _ e f.0 f.1 f.2) (oriented_is p _ _ _ _ _ e r.0 r.1 r.2) c.if-forward-reverse.true
 
-pub returns : goal.returns
-returns c =
+pub returns-clause-nearer : goal.returns-clause-nearer
+returns-clause-nearer c =
     let f = c.orient-forward.ensures in
     let r = c.orient-reverse.ensures in
-    record {
-      contour = r.0;
-      nearer = λ p e. reverse_nearer p _ _ _ _ (oriented_is p _ _ _ _ _ e f.0 f.1 f.2) (oriented_is p _ _ _ _ _ e r.0 r.1 r.2) c.if-forward-reverse.false;
-    }
+    λ p e. reverse_nearer p _ _ _ _ (oriented_is p _ _ _ _ _ e f.0 f.1 f.2) (oriented_is p _ _ _ _ _ e r.0 r.1 r.2) c.if-forward-reverse.false

@@ -24,8 +24,7 @@ use Rattle.prepare.specs.Prepared.{prepared_kept}
 use Rattle.prepare.specs.Staying.{holds_kept}
 use Rattle.history.specs.History.{Ready}
 use Rattle.history.specs.Appending.{ready_kept}
-use Rattle.history.specs.Cut.{cut, count_cut, ready_cut, ready_uncut}
-use Rattle.caches.specs.Querying.{Querying}
+use Rattle.history.specs.Cut.{cut, count_cut, ready_uncut}
 use Rattle.caches_c.specs.Stages.{Stage}
 
 -- the contour with number j, where it is not empty
@@ -67,16 +66,6 @@ module _ (xs : List Float) (ns : List ℕ) (g : SpatialGrid) (room : ℕ) (lay :
         held = λ p e.
             all_give _ _ (λ c h. holds_kept xs g lay ds w w' laid (λ i l. kept i (omega (arith, laid, s.start))) (f p c) h) (contours_from 0 0 ns)
             (s.held p e);
-      }
-
-  -- what is asked by a path of as many points, and by the slice of them alone
-  pub querying_cut : 2 * k ≤ length xs → (let path = cut xs k in Querying xs g lay ds w path (length path / 2))
-  querying_cut long =
-      rw (count_cut xs k long)
-      record {
-        prepared = s.querying.prepared;
-        ready = ready_cut xs k long g w k (le_refl k) s.querying.ready;
-        apart = s.querying.apart;
       }
 
   -- every cache is changed

@@ -2,10 +2,9 @@
 use mathlib.Core.Path.{◌≡◌, refl}
 use mathlib.Core.List.{List}
 use Prim.Native.Nat.{ℕ, ◌+◌, ◌*◌, ◌≤◌, ◌<◌}
-use Rattle.std.specs.Prelude.{◌/◌}
 use native.Mathlib.Omega.{arith}
 use lib.Ieee.{Float}
-use lib.ListN.{length, take}
+use lib.ListN.{length}
 use Rattle.rules.specs.SamplesAndCache.{Waiting}
 use Rattle.rules.specs.declared.SpatialGrid.{SpatialGrid}
 use Rattle.path.specs.Lists.{all_give}
@@ -16,8 +15,6 @@ use Rattle.prepare.specs.Prepared.{Prepared, prepared_kept}
 use Rattle.prepare.specs.Staying.{holds_kept}
 use Rattle.choosing.specs.Lining.{lined_same}
 use Rattle.history.specs.Appending.{ready_kept}
-use Rattle.history.specs.Cut.{count_cut, ready_cut}
-use Rattle.caches.specs.Querying.{Querying}
 use Rattle.path_points.specs.Pen.{Pen}
 use Rattle.path_points.specs.declared.PathWriter.{PathWriter}
 use Rattle.joining.specs.Lines.{Lines}
@@ -59,11 +56,3 @@ pen_still g room count path ms work work' a pen below l same =
 -- the path slice has room for the path's points
 pub long : (w : PathWriter) → w.count ≤ w.room → 2 * w.count ≤ length w.path.now
 long w l = omega (arith, l, w.pen.path_room)
-
--- a query may ask by the slice of the path's points alone
-pub querying_cut : (xs : List Float) (g : SpatialGrid) (lay : Layout) (ds : List Float) (w : List ℕ) (path : List Float) (count : ℕ) →
-    2 * count ≤ length path → Querying xs g lay ds w path count →
-    Querying xs g lay ds w (take (2 * count) path) (length (take (2 * count) path) / 2)
-querying_cut xs g lay ds w path count h q =
-    rw (count_cut path count h)
-    (record { prepared = q.prepared; ready = ready_cut path count h g w count (omega arith) q.ready; apart = q.apart })

@@ -8,7 +8,8 @@ use Rattle.history.specs.History.{points}
 use Rattle.history.specs.Cut.{count_cut, points_cut, ready_cut}
 use Rattle.caches_c.specs.Stages.{Stage}
 use Rattle.caches_c.proofs.Preparing.{first_stage}
-use Rattle.caches_c.proofs.Staying.{grown, querying_cut, changed, emitted}
+use Rattle.caches.specs.Cut.{querying_cut}
+use Rattle.caches_c.proofs.Staying.{grown, changed, emitted}
 use Rattle.caches_c.proofs.Settling.{settled, others_held}
 use Rattle.caches_c.proofs.caches_around.Goals as goal
 use Rattle.caches_c.proofs.caches_around.Goals.{After-insert_run, After-seed_caches, After-insert_run-2}
@@ -51,7 +52,7 @@ seed_caches-requires c =
     let r = c.requires in
     let up = c.set_up-frame.ensures in
     rw (up.points, up.grid)
-    (querying_cut _ _ _ _ _ _ _ _ _ (inserted (goal.at.seed_caches-requires c).After-insert_run) (omega (arith, r.0.counted, r.2, r.3)))
+    (querying_cut _ _ _ _ _ _ _ (omega (arith, r.0.counted, r.2, r.3)) (inserted (goal.at.seed_caches-requires c).After-insert_run).querying)
 
 pub insert_run-requires-2 : goal.insert_run-requires-2
 insert_run-requires-2 c =
@@ -74,7 +75,7 @@ settle-requires-clause-querying c =
     let up = c.set_up-frame.ensures in
     let h = goal.at.settle-requires-clause-querying c in
     let three = longer h.After-insert_run-2 (seeded h.After-seed_caches (inserted h.After-insert_run)) in
-    rw (up.points, up.grid) (querying_cut _ _ _ _ _ _ _ _ _ three (omega (arith, r.0.counted, r.3)))
+    rw (up.points, up.grid) (querying_cut _ _ _ _ _ _ _ (omega (arith, r.0.counted, r.3)) three.querying)
 
 pub settle-requires-clause-within : goal.settle-requires-clause-within
 settle-requires-clause-within c =

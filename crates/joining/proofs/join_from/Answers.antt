@@ -11,7 +11,8 @@ use Rattle.history.specs.Cut.{points_cut}
 use Rattle.path_points.specs.Wrote.{wrote_none}
 use Rattle.path_points.specs.Writing.{reached}
 use Rattle.joining.specs.Joining.{Joining}
-use Rattle.joining.proofs.Keeping.{long, querying_cut}
+use Rattle.caches.specs.Cut.{querying_cut}
+use Rattle.joining.proofs.Keeping.{long}
 use Rattle.joining.proofs.Starting.{seeded_first, Begun, start_full, start_querying, start_joining, start_wrote, retrace_is, reached_err}
 use Rattle.joining.proofs.join_from.Goals as goal
 use Rattle.joining.proofs.join_from.Goals.{After-emit, After-seed_caches}

@@ -2,7 +2,8 @@
 use native.Mathlib.Omega.{arith}
 use Rattle.path.specs.Waiting.{update_caching}
 use Rattle.history.specs.Cut.{points_cut}
-use Rattle.joining.proofs.Keeping.{long, pen_still, querying_cut}
+use Rattle.caches.specs.Cut.{querying_cut}
+use Rattle.joining.proofs.Keeping.{long, pen_still}
 use Rattle.joining.proofs.Settling.{settled_lines}
 use Rattle.joining.proofs.Turning.{turn_apart, turn_fits, turn_some, turn_ends, turn_within, turn_left, turn_same, turn_full, turn_querying, turn_flags, turn_next}
 use Rattle.joining.proofs.join_waiting.Goals as goal

@@ -1,6 +1,6 @@
 /* Joins a line, a line that begins where the first does, and a point to a path that goes back
- * over its own grooves: prints each path point with its mark, and how many cuts, back-steps,
- * jumps and touches there are. */
+ * over its own grooves: prints each path point with its mark, how many cuts, back-steps, jumps
+ * and touches there are, and how long these are. */
 #include <inttypes.h>
 #include <stdio.h>
 
@@ -48,5 +48,7 @@ int main(void) {
     }
     printf("cuts %" PRIu32 ", back-steps %" PRIu32 ", jumps %" PRIu32 ", touches %" PRIu32 "\n",
            joined.cuts, joined.back_steps, joined.jumps, joined.touches);
+    printf("in 1,024ths: cuts %" PRIu64 ", back-steps %" PRIu64 ", jumps %" PRIu64 "\n",
+           joined.cut_length, joined.back_step_length, joined.jump_length);
     return 0;
 }

@@ -240,6 +240,7 @@ enum twillharbor_mark {
 
 struct twillharbor_retrace_result {
     uint32_t number, place, points, cuts, back_steps, jumps, touches;
+    uint64_t cut_length, back_step_length, jump_length;
 };
 
 /*
@@ -274,7 +275,14 @@ struct twillharbor_retrace_result {
  * `cuts`, `back_steps`, `jumps` and `touches` are the numbers of marks of these kinds. Each
  * segment of each contour is cut once, and each contour that holds a point, but the first, is
  * jumped to or touched once: jumps and touches together are one less than the contours that
- * hold a point. Where none does all five are 0.
+ * hold a point. Where none does all counts and lengths are 0.
+ *
+ * `cut_length`, `back_step_length` and `jump_length` are lengths in 1,024ths. The length of a pair
+ * of points is its plain distance, as the distance call gives it, times 1,024, rounded down to a
+ * whole number; it is below 2^32. These are added up over the pairs of neighbouring path points:
+ * those of the cuts, of the back-steps, and of the jumps and touches together, to which a touch
+ * adds 0. A sum is below 2^52. `cut_length` is the plate's length: added up contour by contour over
+ * the segments in `points`, it is the same number.
  *
  * A touch is a jump between numerically equal points, so it scratches nothing. Equal means both
  * coordinates: 0 and -0 are equal, and (0,0) and (1e-200,0) are not, though their squared

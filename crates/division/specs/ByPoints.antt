@@ -10,12 +10,12 @@ use Rattle.std.proofs.Math.Dec.{T}
 use Rattle.std.proofs.Math.ListN.{length, get_or-append}
 use Rattle.rules.specs.Tools.{pick, sum}
 use Rattle.rules.specs.HandedOver.{Plate, Contour, at, contours, gives}
-use Rattle.rules.specs.RetraceAndMarks.{start_kind, cut_kind, count_marks}
+use Rattle.rules.specs.RetraceAndMarks.{start_kind, cut_kind, count_marks, kind_at, reference_at}
 use Rattle.rules.specs.Calls.{retrace_call}
-use Rattle.statement.specs.PathStatement.{contour_count, Among, Of, OfContour, kind_at, reference_at, named, vertices_after, vertex_in, cuts_of, itself, Cut, JumpOrTouch, PairOf, NotEntered, Divides, PathStatement, BlankStatement}
+use Rattle.statement.specs.PathStatement.{contour_count, Among, Of, OfContour, named, vertices_after, vertex_in, cuts_of, itself, Cut, JumpOrTouch, PairOf, NotEntered, Divides, PathStatement, BlankStatement}
 use Rattle.statement.specs.PathCheck.{enters, is_of, entries_of, marks_before, Unentered, FirstCut, RulesAt, DividesByPoints}
 use Rattle.rules.specs.declared.Point.{Point}
-use Rattle.rules.specs.declared.Counts.{Counts}
+use Rattle.rules.specs.declared.Totals.{Totals}
 use Rattle.path.specs.Contours.{all_among, among_all, contours_rise, contour_one}
 use Rattle.path.specs.Theorem.{path_statement}
 use Rattle.path.specs.Blank.{blank_statement}
@@ -58,7 +58,7 @@ pair_fresh cs x u v Fresh Fresh' f k kind r (inr (inl y)) = inr (inl y)
 pair_fresh cs x u v Fresh Fresh' f k kind r (inr (inr (j, y))) =
     let s = y.fresh in inr (inr (j, record { landing = y.landing; fresh = (s.0, s.1, s.2, f s.0 s.3) }))
 
-module _ (p : Plate) (c : Counts) (path : List Float) (ms : List ℕ) (d : Divides p c path ms) where
+module _ (p : Plate) (c : Totals) (path : List Float) (ms : List ℕ) (d : Divides p c path ms) where
   abbrev n : ℕ
   n = c.points
 
@@ -213,7 +213,7 @@ blank_by_points cs xs e =
       entered = λ c m. absurd (not_among cs c e m);
     }
 
-pub retrace_by_points : (p : Plate) (path : List Float) (ms : List ℕ) (w d : ℕ) (c : Counts) →
+pub retrace_by_points : (p : Plate) (path : List Float) (ms : List ℕ) (w d : ℕ) (c : Totals) →
     let o = retrace_call p path ms w d in
     o.answer ≡ gives c →
     DividesByPoints (contours p) p.points c.points (take (2 * c.points) o.path) (take (2 * c.points) o.marks)
@@ -230,5 +230,5 @@ retrace_by_points p path ms w d c e = go (dec_le 1 (length (contours p)))
     go (yes x) = divides_by_points p c written marked (path_statement p path ms w d c e x).3
     go (no x) =
         let none : length (contours p) ≡ 0 = omega (arith, x) in
-        let z : c.points ≡ 0 = ap (λ (k : Counts). k.points) (blank_statement p path ms w d c e none) in
+        let z : c.points ≡ 0 = ap (λ (k : Totals). k.points) (blank_statement p path ms w d c e none) in
         rw z (blank_by_points (contours p) p.points none)

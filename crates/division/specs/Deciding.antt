@@ -11,8 +11,8 @@ use native.Mathlib.Omega.{arith}
 use Rattle.std.proofs.Math.Dec.{T, eqb}
 use Rattle.rules.specs.Tools.{first_failing, up_from, every}
 use Rattle.rules.specs.HandedOver.{Contour, at, Answer, refuses, RefusalRow, refused_by}
-use Rattle.rules.specs.RetraceAndMarks.{cut_kind, back_step_kind, count_marks}
-use Rattle.statement.specs.PathStatement.{Among, Of, kind_at, reference_at, cuts_of, Landing, JumpOrTouch, PairOf}
+use Rattle.rules.specs.RetraceAndMarks.{cut_kind, back_step_kind, count_marks, kind_at, reference_at}
+use Rattle.statement.specs.PathStatement.{Among, Of, cuts_of, Landing, JumpOrTouch, PairOf}
 use Rattle.statement.specs.PathCheck.{enters, is_of, entries_of, marks_before, Unentered, FirstCut, RulesAt, DividesByPoints, keeps_rules, complete, not_drawn, LeftOut, FirstFault}
 use Rattle.rules.specs.declared.Point.{Point}
 use Rattle.path.specs.Rows.{Other, rows_other, row_tells, row_passes, row_refuses}

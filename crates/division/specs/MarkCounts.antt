@@ -6,8 +6,7 @@ use Prim.Native.Nat.{ℕ, zero, suc, ◌+◌, ◌*◌, ◌≤◌, ◌<◌}
 use Rattle.std.proofs.Common.{zero-add, take_all}
 use native.Mathlib.Omega.{arith}
 use Rattle.rules.specs.Tools.{pick}
-use Rattle.rules.specs.RetraceAndMarks.{count_marks}
-use Rattle.statement.specs.PathStatement.{kind_at, reference_at}
+use Rattle.rules.specs.RetraceAndMarks.{count_marks, kind_at, reference_at}
 use Rattle.statement.specs.PathCheck.{marks_before}
 use Rattle.path.specs.Slices.{twice, twice_one}
 

@@ -5,8 +5,8 @@ use Rattle.std.proofs.Math.Decide.{dec_le}
 use Rattle.rules.specs.Tools.{pick, first_failing, up_from}
 use Rattle.rules.specs.HandedOver.{Contour, at}
 use Rattle.rules.specs.Bits.{same_point}
-use Rattle.rules.specs.RetraceAndMarks.{start_kind, cut_kind, back_step_kind, jump_kind, touch_kind, coincide, landing_kind}
-use Rattle.statement.specs.PathStatement.{Of, kind_at, reference_at, cuts_of, JumpOrTouch}
+use Rattle.rules.specs.RetraceAndMarks.{start_kind, cut_kind, back_step_kind, jump_kind, touch_kind, coincide, landing_kind, kind_at, reference_at}
+use Rattle.statement.specs.PathStatement.{Of, cuts_of, JumpOrTouch}
 use Rattle.statement.specs.PathCheck.{is_of, entries_of, marks_before, lands_fresh, goes, cuts_fresh, reverses, keeps_after, keeps_rules, complete}
 use Rattle.rules.specs.declared.Point.{Point}
 use Rattle.path.specs.Lists.{All}

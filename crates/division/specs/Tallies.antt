@@ -9,8 +9,8 @@ use native.Mathlib.Omega.{arith}
 use Rattle.std.proofs.Math.Dec.{T}
 use Rattle.rules.specs.Tools.{pick, sum, up_from}
 use Rattle.rules.specs.HandedOver.{Contour}
-use Rattle.rules.specs.RetraceAndMarks.{start_kind, cut_kind, back_step_kind, jump_kind, touch_kind, count_marks, marks_of}
-use Rattle.statement.specs.PathStatement.{Among, OfOne, kind_at, reference_at, cuts_of, IsJumpOrTouch, PairOf}
+use Rattle.rules.specs.RetraceAndMarks.{start_kind, cut_kind, back_step_kind, jump_kind, touch_kind, count_marks, marks_of, kind_at, reference_at}
+use Rattle.statement.specs.PathStatement.{Among, OfOne, cuts_of, IsJumpOrTouch, PairOf}
 use Rattle.statement.specs.PathCheck.{enters, is_of, entries_of, marks_before}
 use Rattle.rules.specs.declared.Point.{Point}
 use Rattle.path.specs.Lists.{All, all_of, all_give}

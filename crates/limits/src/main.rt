@@ -1,10 +1,12 @@
 // Boundary runs of the table of refusals (document 01, with document 02's bad layer and parked point): for each case one line with its name, its number and
 // its place, and the entries or points where the call counts them. A line of the retrace call has the lengths of the path, marks, u32 work
-// and f64 work slices, and number, place, points, cuts, back-steps, jumps and touches.
+// and f64 work slices, and number, place, points, cuts, back-steps, jumps and touches, and how long the cuts, the back-steps, and the jumps and
+// touches are.
 #![tactic(auto)]
 
 use boundary::{ABOVE, BELOW, along, tell};
 use results::RetraceResult;
+use std::fmt::Display;
 use std::io;
 use twillharbor::{
     twillharbor_order, twillharbor_order_home, twillharbor_retrace, twillharbor_retrace_home,
@@ -29,7 +31,7 @@ struct Lent {
 }
 
 // A line with the call's numbers.
-fn show<R: Print>(rt: &R, name: &str, numbers: &[u32]) -> io::Result<()> {
+fn show<R: Print, N: Display>(rt: &R, name: &str, numbers: &[N]) -> io::Result<()> {
     tell(rt, name, &[], numbers)?;
     println!(rt; "")
 }
@@ -62,15 +64,18 @@ fn straight<R: Print>(
     show(rt, name, &[r.number, r.place, r.points])
 }
 
-fn numbers_of(r: RetraceResult) -> [u32; 7] {
+fn numbers_of(r: RetraceResult) -> [u64; 10] {
     [
-        r.number,
-        r.place,
-        r.points,
-        r.cuts,
-        r.back_steps,
-        r.jumps,
-        r.touches,
+        u64::from(r.number),
+        u64::from(r.place),
+        u64::from(r.points),
+        u64::from(r.cuts),
+        u64::from(r.back_steps),
+        u64::from(r.jumps),
+        u64::from(r.touches),
+        r.cut_length,
+        r.back_step_length,
+        r.jump_length,
     ]
 }
 
@@ -317,6 +322,29 @@ fn most_points_retrace<R: Print + AllocGlobal>(rt: &R) -> io::Result<()> {
     retrace_each(rt, "65536 points", p, &cases)
 }
 
+// Points in two opposite corners in turn.
+fn to_and_fro(points: &mut [f64]) {
+    for pair in points.chunks_exact_mut(4) {
+        pair[0] = -1000000.0;
+        pair[1] = -1000000.0;
+        pair[2] = 1000000.0;
+        pair[3] = 1000000.0;
+    }
+}
+
+// No plate's segments are longer together.
+fn farthest_points_retrace<R: Print + AllocGlobal>(rt: &R) -> io::Result<()> {
+    let mut points = vec![in rt.alloc(); 0.0f64; 131072]?;
+    to_and_fro(points.as_mut_slice());
+    let p = Plate {
+        points: points.as_slice(),
+        lengths: &[65536],
+        layers: &[0],
+    };
+    let name = "65536 points from corner to corner";
+    retrace_each(rt, name, p, &[(131072, 131072, 344072, 1)])
+}
+
 fn too_many_points_retrace<R: Print + AllocGlobal>(rt: &R) -> io::Result<()> {
     let points = vec![in rt.alloc(); 0.0f64; 131074]?;
     let p = Plate {
@@ -508,6 +536,7 @@ fn main(rt: HostRuntime) -> io::Result<()> {
     single_points_retrace(&rt)?;
     too_many_contours_retrace(&rt)?;
     most_points_retrace(&rt)?;
+    farthest_points_retrace(&rt)?;
     too_many_points_retrace(&rt)?;
     last_layers(&rt)?;
     miscounted_layers(&rt)?;

@@ -18,11 +18,11 @@ use Rattle.std.proofs.Math.ListN.{length}
 use Rattle.rules.specs.Tools.{pick, sum}
 use Rattle.rules.specs.HandedOver.{IsF64, AllF64, Plate, at, Answer, gives, refuses, retrace_room}
 use Rattle.rules.specs.Box.{box}
-use Rattle.rules.specs.RetraceAndMarks.{vertex_of, retrace, coordinates, marks}
-use Rattle.rules.specs.Calls.{counts, vertices, retrace_call}
-use Rattle.statement.specs.PathStatement.{kind_at, IsJumpOrTouch}
+use Rattle.rules.specs.RetraceAndMarks.{vertex_of, retrace, coordinates, marks, kind_at}
+use Rattle.rules.specs.Calls.{totals, path_totals, vertices, retrace_call}
+use Rattle.statement.specs.PathStatement.{IsJumpOrTouch}
 use Rattle.statement.specs.HowNear.{LandingsNear, written_points, IsAccepted, HowNearByRules, HowNear}
-use Rattle.rules.specs.declared.Counts.{Counts}
+use Rattle.rules.specs.declared.Totals.{Totals}
 use Rattle.path.specs.Lists.{All, all-at, all-places}
 use Rattle.path.specs.Accepted.{Accepted, input_gives, OfPlate, point_on}
 use Rattle.path.specs.Start.{AllTakePart, layered_part}
@@ -111,13 +111,13 @@ module _ (p : Plate) (path : List Float) (ms : List ℕ) (w d : ℕ) (f64 : AllF
   xs_length : length xs ≡ 2 * length (retrace p)
   xs_length = omega (arith, coordinates_length p.points (vertices (retrace p)), vertices_length (retrace p))
 
-  near_result : (c : Counts) → (retrace_call p path ms w d).answer ≡ gives c →
+  near_result : (c : Totals) → (retrace_call p path ms w d).answer ≡ gives c →
       LandingsNear (retrace_call p path ms w d).path (retrace_call p path ms w d).marks c.points
-  unfolding retrace_call counts
+  unfolding retrace_call totals path_totals
   near_result c e =
       let (accepted, part, counted) = retrace_gives p path ms w d c e in
       let r = retrace p in
-      let n : c.points ≡ length r = ap (λ (z : Counts). z.points) counted in
+      let n : c.points ≡ length r = ap (λ (z : Totals). z.points) counted in
       let x : length xs ≡ 2 * c.points = omega (arith, xs_length, n) in
       let y : length (marks r) ≡ 2 * c.points = omega (arith, marks_length r, n) in
       near_begun _ xs _ (marks r) c.points (length r) (omega (arith, n))
@@ -139,7 +139,7 @@ pub how_near : HowNear
 unfolding HowNear written_points pick
 how_near p path ms w d f64 own = go (retrace_call p path ms w d).answer refl
   where
-    go : (a : Answer Counts) → (retrace_call p path ms w d).answer ≡ a →
+    go : (a : Answer Totals) → (retrace_call p path ms w d).answer ≡ a →
         LandingsNear (retrace_call p path ms w d).path (retrace_call p path ms w d).marks (written_points a)
     go (gives c) e = near_result p path ms w d f64 own c e
     go (refuses number place) e = six (eqb number 6) refl

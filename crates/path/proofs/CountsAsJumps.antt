@@ -1,13 +1,15 @@
--- Read as jumps, the touches leave the counts, the answer and the path slice that the retrace call has without touches. Assumes nothing.
-use Rattle.std.specs.Prelude.{◌≡◌, refl, Bool, true, false, ◌||◌, List, [], ◌∷◌, map, ℕ, ◌+◌, eqb, Float}
+-- Read as jumps, the touches leave the counts and the lengths, the answer and the path slice that the retrace call has without touches. Assumes nothing.
+use Rattle.std.specs.Prelude.{◌≡◌, refl, Bool, true, false, ◌||◌, List, [], ◌∷◌, map, ℕ, ◌+◌, ◌-◌, suc, zero, eqb, length, Float}
 use Rattle.std.proofs.Common.{sym, ap, ◌∙◌, arith, eqb-true, ne_eqb}
 use Rattle.std.proofs.Math.Path.{fun_ext}
 use Rattle.std.proofs.lemmas.Bool.{eqb-false}
-use Rattle.rules.specs.Tools.{pick}
-use Rattle.rules.specs.HandedOver.{Plate, Answer, gives, refuses, RefusalRow, refused_by, after}
-use Rattle.rules.specs.RetraceAndMarks.{cut_kind, back_step_kind, jump_kind, touch_kind, Step, retrace, marks, count_marks, marks_of}
-use Rattle.rules.specs.Calls.{counts, retrace_call}
-use Rattle.rules.specs.declared.Counts.{Counts}
+use Rattle.rules.specs.Tools.{pick, sum, up_from}
+use Rattle.rules.specs.HandedOver.{Plate, at, Answer, gives, refuses, RefusalRow, refused_by, after}
+use Rattle.rules.specs.RetraceAndMarks.{cut_kind, back_step_kind, jump_kind, touch_kind, Step, retrace, coordinates, marks, kind_at, count_marks, marks_of}
+use Rattle.rules.specs.Lengths.{pair_length, is_cut, is_back_step, is_jump_or_touch, counted_length, length_along}
+use Rattle.rules.specs.Calls.{totals, path_totals, vertices, retrace_call}
+use Rattle.rules.specs.declared.Totals.{Totals}
+use Rattle.path.specs.Slices.{twice}
 use Rattle.path.specs.Totals.{count_either}
 use Rattle.path.specs.TouchesAsJumps.{kind_as_jump, as_jump, jump_retrace}
 use Rattle.path.specs.CountsAsJumps.{counts_as_jumps, jump_retrace_call, answer_as_jumps}
@@ -59,10 +61,45 @@ jumps_and_touches p = rw (← retrace_as_jumps p) (jumps_as (retrace p))
 pub no_touches : (p : Plate) → marks_of touch_kind (marks (jump_retrace p)) ≡ 0
 no_touches p = rw (← retrace_as_jumps p) (none_left (retrace p))
 
-pub counts_as_jumps_lem : (p : Plate) → counts_as_jumps (counts (retrace p)) ≡ counts (jump_retrace p)
-unfolding counts_as_jumps counts
+-- ---- lengths
+
+kind_as : (path : List Step) (k : ℕ) → kind_at (marks (map as_jump path)) k ≡ kind_as_jump (kind_at (marks path) k)
+unfolding kind_at marks as_jump kind_as_jump pick
+kind_as [] k = refl
+kind_as (s ∷ path) zero = refl
+kind_as (s ∷ path) (suc k) = rw (twice k) (kind_as path k)
+
+-- of kinds that are counted alike as jumps
+length_as : (test : ℕ → Bool) → ((k : ℕ) → test (kind_as_jump k) ≡ test k) → (n : ℕ) (xs : List Float) (path : List Step) →
+    length_along test n xs (marks (map as_jump path)) ≡ length_along test n xs (marks path)
+unfolding length_along counted_length
+length_as test alike n xs path =
+    let same : (k : ℕ) → test (kind_at (marks (map as_jump path)) (suc k)) ≡ test (kind_at (marks path) (suc k)) =
+    λ k. ap test (kind_as path (suc k)) ∙ alike _ in
+    ap (λ (f : ℕ → ℕ). sum (map f (up_from 0 (n - 1)))) (fun_ext (λ k. ap (λ (t : Bool). pick t (pair_length (at xs k) (at xs (suc k))) 0) (same k)))
+
+same_lengths : (p : Plate) (test : ℕ → Bool) → ((k : ℕ) → test (kind_as_jump k) ≡ test k) →
+    length_along test (length (retrace p)) (coordinates p.points (vertices (retrace p))) (marks (retrace p))
+    ≡ length_along test (length (jump_retrace p)) (coordinates p.points (vertices (jump_retrace p))) (marks (jump_retrace p))
+same_lengths p test alike =
+    rw (← same_length p, ← same_vertices p, ← retrace_as_jumps p) (sym (length_as test alike (length (retrace p)) _ (retrace p)))
+
+cuts_alike : (k : ℕ) → is_cut (kind_as_jump k) ≡ is_cut k
+cuts_alike = cases (λ k l. is_cut l ≡ is_cut k) refl (λ k d. refl)
+
+back_steps_alike : (k : ℕ) → is_back_step (kind_as_jump k) ≡ is_back_step k
+back_steps_alike = cases (λ k l. is_back_step l ≡ is_back_step k) refl (λ k d. refl)
+
+jumps_alike : (k : ℕ) → is_jump_or_touch (kind_as_jump k) ≡ is_jump_or_touch k
+jumps_alike = cases (λ k l. is_jump_or_touch l ≡ is_jump_or_touch k) refl (λ k d. refl)
+
+pub counts_as_jumps_lem : (p : Plate) → counts_as_jumps (path_totals p (retrace p)) ≡ path_totals p (jump_retrace p)
+unfolding counts_as_jumps totals path_totals
 counts_as_jumps_lem p =
     rw (
+      same_lengths p is_cut cuts_alike,
+      same_lengths p is_back_step back_steps_alike,
+      same_lengths p is_jump_or_touch jumps_alike,
       same_length p,
       jumps_and_touches p,
       no_touches p,
@@ -72,7 +109,7 @@ counts_as_jumps_lem p =
 
 -- ---- the call
 
-rows_as : (rs : List RefusalRow) (later : Answer Counts) → answer_as_jumps (refused_by rs later) ≡ refused_by rs (answer_as_jumps later)
+rows_as : (rs : List RefusalRow) (later : Answer Totals) → answer_as_jumps (refused_by rs later) ≡ refused_by rs (answer_as_jumps later)
 unfolding refused_by pick answer_as_jumps
 rows_as [] later = refl
 rows_as (r ∷ rs) later = go r.test (rows_as rs later)
@@ -82,7 +119,7 @@ rows_as (r ∷ rs) later = go r.test (rows_as rs later)
     go true rest = refl
     go false rest = rest
 
-after_as : (a b : Answer Counts) → answer_as_jumps a ≡ b → (c : ℕ) (result slice : List Float) → after a c result slice ≡ after b c result slice
+after_as : (a b : Answer Totals) → answer_as_jumps a ≡ b → (c : ℕ) (result slice : List Float) → after a c result slice ≡ after b c result slice
 unfolding after answer_as_jumps
 after_as (gives n) b e c result slice = rw (← e)
 after_as (refuses number place) b e c result slice = rw (← e)

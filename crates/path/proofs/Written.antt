@@ -4,7 +4,8 @@ use Rattle.std.proofs.Common.{sym, ap, ◌∙◌, inl, inr, arith, length-take, 
 use Rattle.rules.specs.HandedOver.{Plate, at}
 use Rattle.rules.specs.GridAndNearest.{grid_of}
 use Rattle.rules.specs.Calls.{retrace_call}
-use Rattle.statement.specs.PathStatement.{reference_at, vertex_in, NoneNearer, Pair, PathStatement}
+use Rattle.rules.specs.RetraceAndMarks.{reference_at}
+use Rattle.statement.specs.PathStatement.{vertex_in, NoneNearer, Pair, PathStatement}
 use Rattle.path.specs.Theorem.{path_statement}
 use Rattle.path.specs.Written.{WrittenPair, WrittenStatement, at_take, kind_take}
 

@@ -1,9 +1,11 @@
--- A plate no contour of which holds a point: its path is empty, and what the retrace call counts is 0, jumps and touches too. Assumes nothing.
+-- A plate no contour of which holds a point: its path is empty, and what the retrace call counts and measures is 0, jumps and touches too. Assumes nothing.
 use Rattle.std.specs.Prelude.{◌≡◌, []}
 use Rattle.std.proofs.Common.{ap, ◌∙◌}
+use Rattle.rules.specs.Tools.{sum}
 use Rattle.rules.specs.HandedOver.{Plate, contours}
-use Rattle.rules.specs.RetraceAndMarks.{retrace_of, retrace, marks, count_marks, marks_of}
-use Rattle.rules.specs.Calls.{counts}
+use Rattle.rules.specs.RetraceAndMarks.{retrace_of, retrace, coordinates, marks, count_marks, marks_of}
+use Rattle.rules.specs.Lengths.{length_along}
+use Rattle.rules.specs.Calls.{totals, path_totals, vertices}
 use Rattle.statement.specs.PathStatement.{contour_count, BlankStatement}
 use Rattle.path.specs.Lists.{empty}
 use Rattle.path.specs.Ordering.{no_start}
@@ -14,7 +16,7 @@ unfolding retrace retrace_of
 retrace_empty p e = rw (no_start p e)
 
 pub blank_statement : BlankStatement
-unfolding BlankStatement contour_count counts marks marks_of count_marks
+unfolding BlankStatement contour_count totals path_totals vertices coordinates marks marks_of count_marks length_along sum
 blank_statement p path ms w d c e h =
     let (accepted, part, counted) = retrace_gives p path ms w d c e in
-    counted ∙ ap counts (retrace_empty p (empty (contours p) h))
+    counted ∙ ap (path_totals p) (retrace_empty p (empty (contours p) h))

@@ -140,7 +140,7 @@ square_most (fin s m e) h =
 
 -- ---- a square and a number that is not negative, rounded once
 
-square_plus : (x y : Float) → AtMost (2 ^ 21) x → AtMost (2 ^ 42) y → SignPlus y → Plus (mul_add binary64 x x y)
+square_plus : (x y : Float) → AtMost (2 ^ 21) x → AtMost (2 ^ 42) y → SignPlus y → AtMost (2 ^ 43) (mul_add binary64 x x y) × SignPlus (mul_add binary64 x x y)
 unfolding mul_add sum
 square_plus nan y h k p = absurd h
 square_plus (inf s) y h k p = absurd h
@@ -153,8 +153,7 @@ square_plus (fin s m e) (fin false n d) h k p =
     let b : n * up d * (down e * down e) ≤ 2 ^ 42 * c = omega (arith, mul-le-mul_right (down e * down e) k) in
     let v = m * up e * (m * up e) * down d + n * up d * (down e * down e) in
     rw (unlike_self s)
-    (plus_of (2 ^ 43) (round binary64 false v c) (round_plus binary64 v c)
-    (round_most 43 exact_43 false v c (mul-pos (mul-pos (down_pos e) (down_pos e)) (down_pos d)) (omega arith)))
+    (round_most 43 exact_43 false v c (mul-pos (mul-pos (down_pos e) (down_pos e)) (down_pos d)) (omega arith), round_plus binary64 v c)
 
 -- ---- coordinates in range
 
@@ -184,9 +183,13 @@ pub on_plate_most : (x : Float) → OnPlate x → AtMost 1000000 x
 unfolding plate_limit
 on_plate_most x t = in_range_lem 15625 6 x t
 
-pub distance_plus : (a b : Point) → OnPlate a.x → OnPlate a.y → OnPlate b.x → OnPlate b.y → Plus (distance_squared a b)
+pub squared_most : (a b : Point) → OnPlate a.x → OnPlate a.y → OnPlate b.x → OnPlate b.y →
+    AtMost (2 ^ 43) (distance_squared a b) × SignPlus (distance_squared a b)
 unfolding distance_squared
-distance_plus a b ax ay bx by =
+squared_most a b ax ay bx by =
     let dx = sub_most a.x b.x (on_plate_most a.x ax) (on_plate_most b.x bx) in
     let dy = square_most _ (sub_most a.y b.y (on_plate_most a.y ay) (on_plate_most b.y by)) in
     square_plus _ _ dx dy.0 dy.1
+
+pub distance_plus : (a b : Point) → OnPlate a.x → OnPlate a.y → OnPlate b.x → OnPlate b.y → Plus (distance_squared a b)
+distance_plus a b ax ay bx by = let most = squared_most a b ax ay bx by in plus_of (2 ^ 43) _ most.1 most.0

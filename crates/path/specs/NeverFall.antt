@@ -9,11 +9,11 @@ use Rattle.rules.specs.Tools.{down_to}
 use Rattle.rules.specs.HandedOver.{Plate, Contour, at, contours, vertex_at, layer_at, retrace_room}
 use Rattle.rules.specs.GridAndNearest.{nearest}
 use Rattle.rules.specs.SamplesAndCache.{Waiting}
-use Rattle.rules.specs.RetraceAndMarks.{cut_kind, back_step_kind, Step, land, cut_up, cut_down, back_step, step_at, vertex_of, walk_to, walk_back, landing_kind, emit, begin, path_points, place_in, entered, retrace, marks}
+use Rattle.rules.specs.RetraceAndMarks.{cut_kind, back_step_kind, Step, land, cut_up, cut_down, back_step, step_at, vertex_of, walk_to, walk_back, landing_kind, emit, begin, path_points, place_in, entered, retrace, marks, kind_at, reference_at}
 use Rattle.rules.specs.OrderAndStraight.{contour_number}
-use Rattle.rules.specs.Calls.{counts, retrace_call}
-use Rattle.statement.specs.PathStatement.{contour_count, IsContour, Of, kind_at, reference_at, Draws, NeverFall, LayerStatement}
-use Rattle.rules.specs.declared.Counts.{Counts}
+use Rattle.rules.specs.Calls.{totals, path_totals, retrace_call}
+use Rattle.statement.specs.PathStatement.{contour_count, IsContour, Of, Draws, NeverFall, LayerStatement}
+use Rattle.rules.specs.declared.Totals.{Totals}
 use Rattle.path.specs.Lists.{All, all_of, all_give, all_both, all_append, all_map, all-at, all_without}
 use Rattle.path.specs.Nearest.{grid_for}
 use Rattle.path.specs.Contours.{all_among, others, contour_one}
@@ -167,11 +167,11 @@ retrace_never_falls p t = go (contours p) refl
     go (c ∷ cs) e = some_never_falls p t (omega (arith, ap length e))
 
 pub layer_statement : LayerStatement
-unfolding LayerStatement retrace_call counts
+unfolding LayerStatement retrace_call totals path_totals
 layer_statement p path ms w d c e =
     let (accepted, part, counted) = retrace_gives p path ms w d c e in
     let r = retrace p in
-    let n : c.points ≡ length r = ap (λ (x : Counts). x.points) counted in
+    let n : c.points ≡ length r = ap (λ (x : Totals). x.points) counted in
     let a = (retrace_call p path ms w d).answer in
     let y = slice_after a c (retrace_room (length path) (length ms)) (2 * c.points) (marks r) ms e (omega (arith, marks_length r)) in
     rw (y.1, n) (retrace_never_falls p part)

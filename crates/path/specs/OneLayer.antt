@@ -14,7 +14,7 @@ use Rattle.rules.specs.GridAndNearest.{grid_of}
 use Rattle.rules.specs.SamplesAndCache.{Waiting, waiting, seed, update, keep, cells_around}
 use Rattle.rules.specs.RetraceAndMarks.{Step, begin, path_points, closer, waiting_layer, choose, waiting_number, entered, join_all, retrace_from, retrace_of, retrace, coordinates, marks}
 use Rattle.rules.specs.OrderAndStraight.{last_end, nearer_sense, nearer_end, contour_number, order_after, order_from, order_of, order, entries, straight}
-use Rattle.rules.specs.Calls.{start_or, start_call, OrderOutcome, order_call, StraightOutcome, straight_call, counts, vertices, RetraceOutcome, retrace_call}
+use Rattle.rules.specs.Calls.{start_or, start_call, OrderOutcome, order_call, StraightOutcome, straight_call, path_totals, vertices, RetraceOutcome, retrace_call}
 use Rattle.rules.specs.declared.SpatialGrid.{SpatialGrid}
 use Rattle.path.specs.Lists.{All, all_give, all-at, all_map, all_without}
 use Rattle.path.specs.Layers.{foremost_all}
@@ -102,7 +102,7 @@ plain_retrace_call p path ms w d =
     let c = retrace_room (length path) (length ms) in
     let r = plain_retrace p in
     let rows = work_short w (retrace_work p c) 0 ∷ work_short d (length p.lengths) 1 ∷ full c (length r) ∷ [] in
-    let a = refused_by (plain_rows p ++ rows) (gives (counts r)) in
+    let a = refused_by (plain_rows p ++ rows) (gives (path_totals p r)) in
     record { answer = a; path = after a c (coordinates p.points (vertices r)) path; marks = after a c (marks r) ms }
 
 -- ---- with one layer
@@ -228,4 +228,4 @@ module _ (p : Plate) (l : ℕ) (h : OneLayered p l) where
   retrace_call_plain path ms w d =
       let r = plain_retrace p in
       let c = retrace_room (length path) (length ms) in
-      rw (retrace_plain p l h.low h.one, rows_plain (work_short w (retrace_work p c) 0 ∷ work_short d (length p.lengths) 1 ∷ full c (length r) ∷ []) (gives (counts r)))
+      rw (retrace_plain p l h.low h.one, rows_plain (work_short w (retrace_work p c) 0 ∷ work_short d (length p.lengths) 1 ∷ full c (length r) ∷ []) (gives (path_totals p r)))

@@ -6,9 +6,9 @@ use Rattle.std.proofs.Math.ListN.{get_or-map}
 use Rattle.std.proofs.Math.Seq.{append_snoc}
 use Rattle.rules.specs.Tools.{pick}
 use Rattle.rules.specs.HandedOver.{Plate, at, contours}
-use Rattle.rules.specs.RetraceAndMarks.{start_kind, cut_kind, Step, land, step_at, vertex_of, coordinates, marks}
+use Rattle.rules.specs.RetraceAndMarks.{start_kind, cut_kind, Step, land, step_at, vertex_of, coordinates, marks, kind_at, reference_at}
 use Rattle.rules.specs.Calls.{vertices}
-use Rattle.statement.specs.PathStatement.{kind_at, reference_at, named, vertices_after, vertex_in, itself, Cut, Pair}
+use Rattle.statement.specs.PathStatement.{named, vertices_after, vertex_in, itself, Cut, Pair}
 use Rattle.path.specs.Pairs.{vertex_old, vertex_new, length_snoc, Follows, Chain, Divided}
 
 -- ---- the slices' lengths, and what stands at path point k

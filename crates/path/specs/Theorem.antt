@@ -3,7 +3,7 @@
 -- where the retrace call answers with the counts c (o.answer ≡ gives c, o being what the call answers and leaves), and p has one contour or more that is
 -- not empty (1 ≤ contour_count p), then, r being the path that the documents' rules give (retrace p),
 --
---   c ≡ counts r                            the counts are those of that path: its points, and its marks of each kind;
+--   c ≡ path_totals p r                    the counts, and the lengths, are those of that path: its points, and its marks of each kind;
 --   o.path ≡ coordinates .. ++ drop ..     the path slice begins with the coordinates of that path, and holds beyond them what it held;
 --   o.marks ≡ marks r ++ drop ..           the marks slice begins with the marks of that path, likewise;
 --   Divides p c (take ..) (take ..)         what was written divides into cuts, back-steps, jumps and touches:
@@ -28,9 +28,9 @@ use Rattle.std.proofs.Common.{sym, ap, ◌∙◌, arith, ltb→lt, length-take-l
 use Rattle.rules.specs.Tools.{pick, every}
 use Rattle.rules.specs.HandedOver.{Plate, Answer, gives, refuses, retrace_room, refused_by, work_short, full, plate_rows, retrace_work, retrace_rows, over, after}
 use Rattle.rules.specs.RetraceAndMarks.{vertex_of, retrace, coordinates, marks}
-use Rattle.rules.specs.Calls.{counts, vertices, retrace_call}
+use Rattle.rules.specs.Calls.{totals, path_totals, vertices, retrace_call}
 use Rattle.statement.specs.PathStatement.{contour_count, vertex_in, Divides, PathStatement}
-use Rattle.rules.specs.declared.Counts.{Counts}
+use Rattle.rules.specs.declared.Totals.{Totals}
 use Rattle.path.specs.Rows.{rows_other, rows_give, rows_append, lacks_other, row_tells}
 use Rattle.path.specs.Accepted.{Accepted, input_other, input_gives, input_lacks, Measurable, accepted_measurable}
 use Rattle.path.specs.Start.{AllTakePart, layered_part}
@@ -41,8 +41,8 @@ use Rattle.path.specs.Slices.{coordinates_length, marks_length, vertices_length,
 
 -- the path of the documents' rules, as slices
 pub retrace_divides : (p : Plate) → Measurable p → AllTakePart p → 1 ≤ contour_count p →
-    Divides p (counts (retrace p)) (coordinates p.points (vertices (retrace p))) (marks (retrace p))
-unfolding counts
+    Divides p (path_totals p (retrace p)) (coordinates p.points (vertices (retrace p))) (marks (retrace p))
+unfolding totals path_totals
 retrace_divides p m t h =
     let path = retrace p in
     let d = retrace_divided p m t h in
@@ -67,8 +67,8 @@ retrace_divides p m t h =
     }
 
 -- what it means that the call answers with counts
-pub retrace_gives : (p : Plate) (path : List Float) (ms : List ℕ) (w d : ℕ) (c : Counts) → (retrace_call p path ms w d).answer ≡ gives c →
-    Accepted p.points p.lengths × AllTakePart p × (c ≡ counts (retrace p))
+pub retrace_gives : (p : Plate) (path : List Float) (ms : List ℕ) (w d : ℕ) (c : Totals) → (retrace_call p path ms w d).answer ≡ gives c →
+    Accepted p.points p.lengths × AllTakePart p × (c ≡ path_totals p (retrace p))
 unfolding retrace_call retrace_rows
 retrace_gives p path ms w d c e =
     let accepted = input_gives p.points p.lengths p.layers p.strategy _ c (sym (rows_append (plate_rows p) _ _) ∙ e) in
@@ -84,8 +84,8 @@ retrace_full p path ms w d k e =
     let n = length (retrace p) in
     let works = work_short w (retrace_work p c) 0 ∷ work_short d (length p.lengths) 1 ∷ [] in
     let lacks = (input_lacks p.points p.lengths p.layers p.strategy).0 in
-    let accepted = input_other p.points p.lengths p.layers p.strategy _ (refuses 6 k) (lacks_other Counts 6 k (plate_rows p) lacks) (sym (rows_append (plate_rows p) _ _) ∙ e) in
-    let last = (rows_other works (refused_by (full c n ∷ []) _) (refuses 6 k) (lacks_other Counts 6 k works tt) accepted.3).1 in
+    let accepted = input_other p.points p.lengths p.layers p.strategy _ (refuses 6 k) (lacks_other Totals 6 k (plate_rows p) lacks) (sym (rows_append (plate_rows p) _ _) ∙ e) in
+    let last = (rows_other works (refused_by (full c n ∷ []) _) (refuses 6 k) (lacks_other Totals 6 k works tt) accepted.3).1 in
     let (beyond, same) = row_tells (full c n) _ k tt last in
     (accepted.0, layered_part p accepted.1, sym same, omega (arith, ltb→lt c n beyond, same))
 
@@ -102,13 +102,13 @@ unfolding after over pick
 slice_begun a k room result slice e s l = rw (e, ← s) (take_at (take (2 * k) result) _ (2 * k) (length-take-le (2 * k) result l))
 
 pub path_statement : PathStatement
-unfolding PathStatement retrace_call counts
+unfolding PathStatement retrace_call totals path_totals
 path_statement p path ms w d c e h =
     let (accepted, part, counted) = retrace_gives p path ms w d c e in
     let r = retrace p in
     let a = (retrace_call p path ms w d).answer in
     let room = retrace_room (length path) (length ms) in
-    let n : c.points ≡ length r = ap (λ (x : Counts). x.points) counted in
+    let n : c.points ≡ length r = ap (λ (x : Totals). x.points) counted in
     let xs = coordinates p.points (vertices r) in
     let x = slice_after a c room (2 * c.points) xs path e (omega (arith, coordinates_length p.points (vertices r), vertices_length r)) in
     let y = slice_after a c room (2 * c.points) (marks r) ms e (omega (arith, marks_length r)) in

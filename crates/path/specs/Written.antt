@@ -15,10 +15,10 @@ use Rattle.std.proofs.Common.{arith, get_or-take}
 use Rattle.std.specs.Float.{nan}
 use Rattle.rules.specs.HandedOver.{Plate, Contour, at, contours, gives}
 use Rattle.rules.specs.GridAndNearest.{grid_of}
-use Rattle.rules.specs.RetraceAndMarks.{start_kind, cut_kind, back_step_kind, jump_kind, touch_kind, marks_of}
+use Rattle.rules.specs.RetraceAndMarks.{start_kind, cut_kind, back_step_kind, jump_kind, touch_kind, marks_of, kind_at, reference_at}
 use Rattle.rules.specs.Calls.{retrace_call}
-use Rattle.statement.specs.PathStatement.{contour_count, segment_count, IsContour, OfContour, kind_at, reference_at, vertex_in, cuts_of, PairOf, NotEntered, NoneNearer}
-use Rattle.rules.specs.declared.Counts.{Counts}
+use Rattle.statement.specs.PathStatement.{contour_count, segment_count, IsContour, OfContour, vertex_in, cuts_of, PairOf, NotEntered, NoneNearer}
+use Rattle.rules.specs.declared.Totals.{Totals}
 
 -- ---- what is said
 
@@ -28,7 +28,7 @@ abbrev pub WrittenPair : Plate → List Float → (ℕ → ℕ) → ℕ → ℕ 
 WrittenPair p path v k kind r = PairOf (contours p) (at path) (at p.points) (at path) (NotEntered v k) k kind r
 
 -- a path slice and a marks slice, in which c's path points were written
-pub record Written (p : Plate) (c : Counts) (path : List Float) (ms : List ℕ) : Type 0 where
+pub record Written (p : Plate) (c : Totals) (path : List Float) (ms : List ℕ) : Type 0 where
   pub room : (2 * c.points ≤ length path) × (2 * c.points ≤ length ms)
   pub start : (kind_at ms 0 ≡ start_kind) × OfContour p (reference_at ms 0)
   pub coordinates : let v = vertex_in (take (2 * c.points) ms) in (k : ℕ) → k < c.points → at path k ≡ at p.points (v k)
@@ -49,7 +49,7 @@ pub record Written (p : Plate) (c : Counts) (path : List Float) (ms : List ℕ) 
 
 unfoldable pub WrittenStatement : Type 0
 WrittenStatement =
-    (p : Plate) (path : List Float) (ms : List ℕ) (w d : ℕ) (c : Counts) →
+    (p : Plate) (path : List Float) (ms : List ℕ) (w d : ℕ) (c : Totals) →
     let o = retrace_call p path ms w d in
     o.answer ≡ gives c →
     1 ≤ contour_count p →

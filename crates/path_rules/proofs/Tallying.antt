@@ -15,8 +15,8 @@ use Rattle.std.proofs.lemmas.List.{get_or_append_left, set-append_left, set-appe
 use borrow.Author.Tests.{eq-eqb, ne_eqb}
 use Rattle.rules.specs.Tools.{pick}
 use Rattle.rules.specs.HandedOver.{Contour}
-use Rattle.rules.specs.RetraceAndMarks.{cut_kind, back_step_kind}
-use Rattle.statement.specs.PathStatement.{Among, Of, kind_at, reference_at, cuts_of}
+use Rattle.rules.specs.RetraceAndMarks.{cut_kind, back_step_kind, kind_at, reference_at}
+use Rattle.statement.specs.PathStatement.{Among, Of, cuts_of}
 use Rattle.statement.specs.PathCheck.{enters, is_of, entries_of, marks_before, keeps_rules}
 use Rattle.path.specs.Contours.{one_number}
 use Rattle.division.specs.Says.{says_eqb}

@@ -2,8 +2,8 @@
 -- Definitions only.
 use Rattle.std.specs.Prelude.{◌≡◌, ◌⊎◌, List, ℕ, ◌+◌, ◌*◌, ◌/◌, ◌≤◌, ◌<◌, length, get_or}
 use Rattle.rules.specs.HandedOver.{Contour}
-use Rattle.rules.specs.RetraceAndMarks.{back_step_kind}
-use Rattle.statement.specs.PathStatement.{Among, Of, kind_at, reference_at, cuts_of}
+use Rattle.rules.specs.RetraceAndMarks.{back_step_kind, kind_at, reference_at}
+use Rattle.statement.specs.PathStatement.{Among, Of, cuts_of}
 use Rattle.statement.specs.PathCheck.{entries_of, marks_before}
 use Rattle.path.specs.Contours.{Rising}
 

@@ -4,8 +4,8 @@
 ghost use Rattle.std.specs.Prelude.{◌≡◌, true, List, ℕ, ◌+◌, ◌*◌, ◌%◌, ◌≤◌, ◌<◌, ◌↔◌, ◌||◌, suc, length, get_or, Float, IsTrue, IsSome, IfSome};
 ghost use Rattle.rules.specs.HandedOver.{Contour, at};
 ghost use Rattle.rules.specs.Marks.{kind_of, reference_of};
+ghost use Rattle.rules.specs.RetraceAndMarks.{kind_at, reference_at};
 ghost use Rattle.rules.specs.declared.Point.{Point};
-ghost use Rattle.statement.specs.PathStatement.{kind_at, reference_at};
 ghost use Rattle.statement.specs.PathCheck as rule;
 ghost use Rattle.path_rules.specs.Tallied.{Names};
 ghost use Rattle.path_rules.specs.Words.{number_at, contour_word, Open};
@@ -29,7 +29,7 @@ pub struct MarkedPath<'a, 'w> {
 }
 
 // The mark of path point i, where it has a kind.
-#[tactic(auto, unfolding(statement::specs::PathStatement::kind_at, statement::specs::PathStatement::reference_at))]
+#[tactic(auto, unfolding(rules::specs::RetraceAndMarks::kind_at, rules::specs::RetraceAndMarks::reference_at))]
 fn mark_at(marks: &[u32], i: usize) -> Option<Mark>
     requires { 2 * i + 1 < length marks.now }
     ensures known { IsSome result ↔ (kind_at marks.now i ≤ 4) }

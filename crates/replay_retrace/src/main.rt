@@ -1,8 +1,8 @@
 // Replays the reference's recorded plates by the retrace call. Standard input holds them as words (crate words): the number of rows, then
 // the rows. A row has twelve words (the number of coordinates, the number of lengths, the number of layers, width, height, 0 for Outside,
 // 1 for Inside or 2 for Home, the lengths of the path, marks, u32 work and f64 work slices, x and y of the parked point), the coordinates,
-// the lengths, the layers, the call's seven numbers, and the path and the marks slices as the call leaves them. Prints how many rows there
-// were and how many differed.
+// the lengths, the layers, the call's seven numbers and three lengths, and the path and the marks slices as the call leaves them. Prints how
+// many rows there were and how many differed.
 #![tactic(auto)]
 
 use results::RetraceResult;
@@ -19,6 +19,9 @@ const MOST_ROWS: u64 = 23130;
 
 // What the call answers: number, place, points, cuts, back-steps, jumps and touches.
 const NUMBERS: usize = 7;
+
+// How long the cuts, the back-steps, and the jumps and touches are.
+const LENGTHS: usize = 3;
 
 // The lengths of a row's slices.
 #[derive(Clone, Copy)]
@@ -84,7 +87,14 @@ impl Lent {
     }
 }
 
-// The call's numbers, path and marks stand here.
+// The call's lengths stand here.
+fn lengths_agree(at: Place<'_>, r: RetraceResult) -> bool {
+    r.cut_length == at.read()
+        && r.back_step_length == at.after(1).read()
+        && r.jump_length == at.after(2).read()
+}
+
+// The call's numbers, lengths, path and marks stand here.
 fn call_agrees(alloc: Global, at: Place<'_>, plate: &Plate, s: Sizes) -> Result<bool, AllocError> {
     let mut lent = Lent::new(alloc, s)?;
     let r = lent.retrace(plate);
@@ -97,10 +107,12 @@ fn call_agrees(alloc: Global, at: Place<'_>, plate: &Plate, s: Sizes) -> Result<
         r.jumps,
         r.touches,
     ];
-    let path = at.after(NUMBERS);
+    let lengths = at.after(NUMBERS);
+    let path = lengths.after(LENGTHS);
     let marks = path.after(s.path);
     Ok(
         at.unlike(&numbers) == 0
+            && lengths_agree(lengths, r)
             && path.unlike(lent.path.as_slice()) == 0
             && marks.unlike(lent.marks.as_slice()) == 0,
     )
@@ -129,7 +141,10 @@ fn sized_row<'a>(
     let agrees = call_agrees(alloc, answers, &plate, s)?;
     Ok(Some(Row {
         agrees: plate.fits && agrees,
-        end: answers.after(NUMBERS).after(s.path).after(s.marks),
+        end: answers
+            .after(NUMBERS + LENGTHS)
+            .after(s.path)
+            .after(s.marks),
     }))
 }
 

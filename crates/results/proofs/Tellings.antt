@@ -5,7 +5,7 @@ use Rattle.std.specs.Float.{fin}
 use Rattle.std.specs.Int.{from_bool}
 use Rattle.rules.specs.Tools.{pick}
 use Rattle.rules.specs.HandedOver.{Answer, gives, refuses}
-use Rattle.rules.specs.declared.Counts.{Counts}
+use Rattle.rules.specs.declared.Totals.{Totals}
 use Rattle.results.specs.Results.{told, distance_result, start_result, order_result, straight_result, retrace_result, write_result, read_result}
 
 pub order_told : (a : Answer ℕ) → let t = told a 0 in record { number = t.0; place = t.1; entries = t.2 } ≡ order_result a
@@ -47,8 +47,16 @@ unfolding told start_result
 start_told (gives s) = rw number_is refl
 start_told (refuses n k) = refl
 
+-- totals of a refusal
+abbrev pub Zeros : Totals → Type 0
+Zeros z =
+    (z.points ≡ 0)
+    × ((z.cuts ≡ 0)
+    × ((z.back_steps ≡ 0)
+    × ((z.jumps ≡ 0) × ((z.touches ≡ 0) × ((z.cut_length ≡ 0) × ((z.back_step_length ≡ 0) × (z.jump_length ≡ 0)))))))
+
 pub retrace_told :
-    (a : Answer Counts) (z : Counts) → (z.points ≡ 0) × ((z.cuts ≡ 0) × ((z.back_steps ≡ 0) × ((z.jumps ≡ 0) × (z.touches ≡ 0)))) →
+    (a : Answer Totals) (z : Totals) → Zeros z →
     let t = told a z in
     record {
       number = t.0;
@@ -58,8 +66,22 @@ pub retrace_told :
       back_steps = t.2.back_steps;
       jumps = t.2.jumps;
       touches = t.2.touches;
+      cut_length = t.2.cut_length;
+      back_step_length = t.2.back_step_length;
+      jump_length = t.2.jump_length;
     } ≡ retrace_result a
 unfolding told retrace_result
 retrace_told (gives c) z e = refl
-retrace_told (refuses n k) z e =
-    λ i. record { number = n; place = k; points = e.0 i; cuts = e.1.0 i; back_steps = e.1.1.0 i; jumps = e.1.1.1.0 i; touches = e.1.1.1.1 i }
+retrace_told (refuses n k) z (points, (cuts, (back_steps, (jumps, (touches, (cut_length, (back_step_length, jump_length))))))) =
+    λ i. record {
+      number = n;
+      place = k;
+      points = points i;
+      cuts = cuts i;
+      back_steps = back_steps i;
+      jumps = jumps i;
+      touches = touches i;
+      cut_length = cut_length i;
+      back_step_length = back_step_length i;
+      jump_length = jump_length i;
+    }

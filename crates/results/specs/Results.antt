@@ -3,7 +3,7 @@ use Rattle.std.specs.Prelude.{ℕ, Bool, false, eqb, pos, Float}
 use Rattle.std.specs.Float.{fin}
 use Rattle.rules.specs.Tools.{pick}
 use Rattle.rules.specs.HandedOver.{Answer, gives, refuses}
-use Rattle.rules.specs.declared.Counts.{Counts}
+use Rattle.rules.specs.declared.Totals.{Totals}
 use Rattle.results.specs.declared.DistanceResult.{DistanceResult}
 use Rattle.results.specs.declared.StartResult.{StartResult}
 use Rattle.results.specs.declared.OrderResult.{OrderResult}
@@ -34,14 +34,47 @@ unfoldable pub straight_result : Answer ℕ → StraightResult
 straight_result (gives m) = record { number = 0; place = 0; points = m }
 straight_result (refuses n k) = record { number = n; place = k; points = 0 }
 
-unfoldable pub retrace_result : Answer Counts → RetraceResult
+unfoldable pub retrace_result : Answer Totals → RetraceResult
 retrace_result (gives c) =
-    record { number = 0; place = 0; points = c.points; cuts = c.cuts; back_steps = c.back_steps; jumps = c.jumps; touches = c.touches }
-retrace_result (refuses n k) = record { number = n; place = k; points = 0; cuts = 0; back_steps = 0; jumps = 0; touches = 0 }
+    record {
+      number = 0;
+      place = 0;
+      points = c.points;
+      cuts = c.cuts;
+      back_steps = c.back_steps;
+      jumps = c.jumps;
+      touches = c.touches;
+      cut_length = c.cut_length;
+      back_step_length = c.back_step_length;
+      jump_length = c.jump_length;
+    }
+retrace_result (refuses n k) =
+    record {
+      number = n;
+      place = k;
+      points = 0;
+      cuts = 0;
+      back_steps = 0;
+      jumps = 0;
+      touches = 0;
+      cut_length = 0;
+      back_step_length = 0;
+      jump_length = 0;
+    }
 
--- the counts that a struct carries
-unfoldable pub counts_of : RetraceResult → Counts
-counts_of r = record { points = r.points; cuts = r.cuts; back_steps = r.back_steps; jumps = r.jumps; touches = r.touches }
+-- the totals that a struct carries
+unfoldable pub totals_of : RetraceResult → Totals
+totals_of r =
+    record {
+      points = r.points;
+      cuts = r.cuts;
+      back_steps = r.back_steps;
+      jumps = r.jumps;
+      touches = r.touches;
+      cut_length = r.cut_length;
+      back_step_length = r.back_step_length;
+      jump_length = r.jump_length;
+    }
 
 -- how many path points were written: all of a result's, and before refusal 6 its place, C
 unfoldable pub written_of : RetraceResult → ℕ

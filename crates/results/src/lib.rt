@@ -7,7 +7,7 @@ ghost use Rattle.path.specs.Rows.{Other};
 ghost use Rattle.results.specs.Results.{told, distance_result, start_result, order_result, straight_result, retrace_result, check_result, write_result, read_result};
 ghost use Rattle.results.specs.Refusals.{PlaceOf32};
 
-use rules::{Counts, Refusal};
+use rules::{Refusal, Totals};
 
 // The paper's number and place of a refusal; 12 has a place of 64 bits, and is none of these.
 #[tactic(auto, unfolding(rules::specs::HandedOver::number_of, rules::specs::HandedOver::place_of, rules::specs::HandedOver::refusal))]
@@ -143,22 +143,28 @@ pub struct RetraceResult {
     pub back_steps: u32,
     pub jumps: u32,
     pub touches: u32,
+    pub cut_length: u64,
+    pub back_step_length: u64,
+    pub jump_length: u64,
 }
 
 #[tactic(auto, using(crate::proofs::Tellings::retrace_told))]
-pub fn retrace_result(answer: Result<Counts, Refusal>) -> RetraceResult
+pub fn retrace_result(answer: Result<Totals, Refusal>) -> RetraceResult
     requires { Other 12 (answer_of answer) }
     ensures { result ≡ retrace_result (answer_of answer) }
 {
-    let (number, place, counts) = told(answer, Counts::default());
+    let (number, place, totals) = told(answer, Totals::default());
     RetraceResult {
         number,
         place,
-        points: counts.points,
-        cuts: counts.cuts,
-        back_steps: counts.back_steps,
-        jumps: counts.jumps,
-        touches: counts.touches,
+        points: totals.points,
+        cuts: totals.cuts,
+        back_steps: totals.back_steps,
+        jumps: totals.jumps,
+        touches: totals.touches,
+        cut_length: totals.cut_length,
+        back_step_length: totals.back_step_length,
+        jump_length: totals.jump_length,
     }
 }
 

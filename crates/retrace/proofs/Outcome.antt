@@ -9,47 +9,55 @@ use lib.Seq.{take_all, take_at}
 use borrow.Author.Tests.{lt-ltb, le-ltb, ne_eqb}
 use Rattle.rules.specs.Tools.{pick}
 use Rattle.rules.specs.HandedOver.{AllF64, Plate, plate, Answer, gives, refuses, refusal, number_of, RefusalRow, refused_by, work_short, full, plate_rows, retrace_work, retrace_rows, over, after, retrace_room, frees_work, WorkKept}
-use Rattle.rules.specs.RetraceAndMarks.{cut_kind, back_step_kind, jump_kind, touch_kind, Step, coordinates, marks, marks_of, retrace}
-use Rattle.rules.specs.Calls.{counts, vertices, retrace_call}
-use Rattle.rules.specs.declared.Counts.{Counts}
+use Rattle.rules.specs.RetraceAndMarks.{Step, coordinates, marks, retrace}
+use Rattle.rules.specs.Calls.{totals, path_totals, vertices, retrace_call}
+use Rattle.rules.specs.declared.Totals.{Totals}
 use Rattle.rules.specs.declared.Refusal.{Refusal}
 use Rattle.rules.specs.declared.StartPointStrategy.{StartPointStrategy}
 use Rattle.statement.specs.PathStatement.{contour_count, Divides, PathStatement, NeverFall, LayerStatement}
 use Rattle.rules.specs.Box.{box}
 use Rattle.statement.specs.HowNear.{LandingsNear, written_points, HowNear}
+use Rattle.statement.specs.Quotation.{Quoted, LengthStatement}
 use Rattle.path.specs.Rows.{Other, rows_give, rows_lack, rows_pass, rows_append, refusal_refuses}
-use Rattle.path.specs.Accepted.{input_lacks}
-use Rattle.path.specs.Slices.{marks_length}
+use Rattle.path.specs.Accepted.{Accepted, input_lacks}
+use Rattle.path.specs.Start.{AllTakePart}
+use Rattle.path.specs.Slices.{coordinates_length, vertices_length, marks_length}
 use Rattle.path.specs.Theorem.{path_statement}
 use Rattle.path.specs.NeverFall.{layer_statement}
 use Rattle.near.specs.Theorem.{how_near}
+use Rattle.lengths.specs.Walked.{Walked}
+use Rattle.lengths.specs.Walks.{retrace_walked}
+use Rattle.lengths.specs.Theorem.{length_statement}
 use Rattle.slices.specs.Pairs.{pairs_take, coordinates_take}
 use Rattle.slices.specs.Outcome.{after_rows, work_same}
 use Rattle.path_points.specs.Wrote.{Wrote, marks_pairs}
 
 -- `a` is the call's answer, and the slices afterwards are path', ms', work' and ds'
-abbrev pub Met : Plate → List Float → List ℕ → List ℕ → List Float → Answer Counts → List Float → List ℕ → List ℕ → List Float → Type 0
+abbrev pub Met : Plate → List Float → List ℕ → List ℕ → List Float → Answer Totals → List Float → List ℕ → List ℕ → List Float → Type 0
 Met p path ms work ds a path' ms' work' ds' =
     let o = retrace_call p path ms (length work) (length ds) in
     (a ≡ o.answer) × (path' ≡ o.path) × (ms' ≡ o.marks) × WorkKept o.answer work work' × WorkKept o.answer ds ds'
 
--- and what a result has written divides as the path statement says, where there is a contour, and its layers never fall
-abbrev pub Divided : Plate → Answer Counts → List Float → List ℕ → Type 0
+-- and what a result has written divides as the path statement says, where there is a contour, its layers never fall, and its lengths are what is told
+abbrev pub Divided : Plate → Answer Totals → List Float → List ℕ → Type 0
 Divided p a path' ms' =
-    (n : Counts) → a ≡ gives n →
-    (1 ≤ contour_count p → Divides p n (take (2 * n.points) path') (take (2 * n.points) ms')) × NeverFall p n.points (take (2 * n.points) ms')
+    (n : Totals) → a ≡ gives n →
+    (1 ≤ contour_count p → Divides p n (take (2 * n.points) path') (take (2 * n.points) ms'))
+    × NeverFall p n.points (take (2 * n.points) ms')
+    × Quoted p n (take (2 * n.points) path') (take (2 * n.points) ms')
 
-divides : (p : Plate) (path : List Float) (ms : List ℕ) (w d : ℕ) (a : Answer Counts) (path' : List Float) (ms' : List ℕ) →
+divides : (p : Plate) (path : List Float) (ms : List ℕ) (w d : ℕ) (a : Answer Totals) (path' : List Float) (ms' : List ℕ) →
     a ≡ (retrace_call p path ms w d).answer → path' ≡ (retrace_call p path ms w d).path → ms' ≡ (retrace_call p path ms w d).marks → Divided p a path' ms'
-unfolding PathStatement LayerStatement
+unfolding PathStatement LayerStatement LengthStatement
 divides p path ms w d a path' ms' x y z n e =
-    rw (y, z) (λ k. (path_statement p path ms w d n (sym x ∙ e) k).3, layer_statement p path ms w d n (sym x ∙ e))
+    let given = sym x ∙ e in
+    rw (y, z) (λ k. (path_statement p path ms w d n given k).3, layer_statement p path ms w d n given, length_statement p path ms w d n given)
 
 -- and what has been written, by a result or before refusal 6, has near landings
-abbrev pub WrittenNear : Answer Counts → List Float → List ℕ → Type 0
+abbrev pub WrittenNear : Answer Totals → List Float → List ℕ → Type 0
 WrittenNear a path' ms' = LandingsNear path' ms' (written_points a)
 
-near : (p : Plate) (path : List Float) (ms : List ℕ) (w d : ℕ) (a : Answer Counts) (path' : List Float) (ms' : List ℕ) →
+near : (p : Plate) (path : List Float) (ms : List ℕ) (w d : ℕ) (a : Answer Totals) (path' : List Float) (ms' : List ℕ) →
     AllF64 p.points → p.box ≡ box p.points →
     a ≡ (retrace_call p path ms w d).answer → path' ≡ (retrace_call p path ms w d).path → ms' ≡ (retrace_call p path ms w d).marks → WrittenNear a path' ms'
 unfolding HowNear
@@ -57,7 +65,7 @@ near p path ms w d a path' ms' f64 own x y z = rw (x, y, z) (how_near p path ms 
 
 -- what meets the outcome divides, and its landings are near
 pub whole : (xs : List Float) (ns ls : List ℕ) (width height : ℕ) (s : StartPointStrategy) → AllF64 xs → (path : List Float) (ms work : List ℕ) (ds : List Float)
-    (a : Answer Counts) (path' : List Float) (ms' work' : List ℕ) (ds' : List Float) →
+    (a : Answer Totals) (path' : List Float) (ms' work' : List ℕ) (ds' : List Float) →
     let p = plate xs ns ls width height s in
     Met p path ms work ds a path' ms' work' ds' → Met p path ms work ds a path' ms' work' ds' × Divided p a path' ms' × WrittenNear a path' ms'
 unfolding plate
@@ -117,7 +125,7 @@ module _ (p : Plate) (path : List Float) (ms work : List ℕ) (ds : List Float) 
   unfolding retrace_call
   met_refused r m h =
       let lacks = (input_lacks p.points p.lengths p.layers p.strategy).0 in
-      rw (behind (length (retrace p)) (counts (retrace p))) (
+      rw (behind (length (retrace p)) (path_totals p (retrace p))) (
         refusal_refuses (plate_rows p) r m _ h,
         after_rows (plate_rows p) lacks r m _ c _ path h,
         after_rows (plate_rows p) lacks r m _ c _ ms h,
@@ -132,13 +140,13 @@ module _ (p : Plate) (path : List Float) (ms work : List ℕ) (ds : List Float) 
     pub met_short : length work < retrace_work p c → Met p path ms work ds (refuses 5 0) path ms work ds
     unfolding retrace_call refused_by work_short after pick
     met_short h =
-        rw (passed (length (retrace p)) (counts (retrace p)), lt-ltb (length work) (retrace_work p c) h) (refl, refl, refl, work_same _ work, work_same _ ds)
+        rw (passed (length (retrace p)) (path_totals p (retrace p)), lt-ltb (length work) (retrace_work p c) h) (refl, refl, refl, work_same _ work, work_same _ ds)
 
     module _ (enough : retrace_work p c ≤ length work) where
       pub met_short_distances : length ds < length p.lengths → Met p path ms work ds (refuses 5 1) path ms work ds
       unfolding retrace_call refused_by work_short after pick
       met_short_distances h =
-          rw (passed (length (retrace p)) (counts (retrace p)), le-ltb (length work) (retrace_work p c) enough, lt-ltb (length ds) (length p.lengths) h)
+          rw (passed (length (retrace p)) (path_totals p (retrace p)), le-ltb (length work) (retrace_work p c) enough, lt-ltb (length ds) (length p.lengths) h)
           (refl, refl, refl, work_same _ work, work_same _ ds)
 
       -- the path was joined, in room for c points
@@ -148,7 +156,7 @@ module _ (p : Plate) (path : List Float) (ms work : List ℕ) (ds : List Float) 
         unfolding retrace_call refused_by work_short full after pick frees_work WorkKept
         met_full h =
             rw (
-              passed (length (retrace p)) (counts (retrace p)),
+              passed (length (retrace p)) (path_totals p (retrace p)),
               le-ltb (length work) (retrace_work p c) enough,
               le-ltb (length ds) (length p.lengths) enough-ds,
               lt-ltb c (length (retrace p)) (omega (arith, w.counted)),
@@ -157,12 +165,12 @@ module _ (p : Plate) (path : List Float) (ms work : List ℕ) (ds : List Float) 
             )
             (refl, w.points, w.kinds, λ t. absurd t, λ t. absurd t)
 
-        pub met_whole : n ≤ c → (r : Counts) → r ≡ counts (retrace p) → Met p path ms work ds (gives r) path' ms' work' ds'
+        pub met_whole : n ≤ c → (r : Totals) → r ≡ path_totals p (retrace p) → Met p path ms work ds (gives r) path' ms' work' ds'
         unfolding retrace_call refused_by work_short full after pick WorkKept
         met_whole h r e =
             let all = take_all c (retrace p) (omega (arith, w.counted)) in
             rw (
-              passed (length (retrace p)) (counts (retrace p)),
+              passed (length (retrace p)) (path_totals p (retrace p)),
               le-ltb (length work) (retrace_work p c) enough,
               le-ltb (length ds) (length p.lengths) enough-ds,
               le-ltb c (length (retrace p)) (omega (arith, w.counted)),
@@ -170,14 +178,27 @@ module _ (p : Plate) (path : List Float) (ms work : List ℕ) (ds : List Float) 
             )
             (refl, rw all at w.points, rw all at w.kinds, tt, tt)
 
--- what is counted in the slice is counted in the marks of the path
-pub counted : (xs : List Float) (steps : List Step) (room n : ℕ) (was path : List Float) (marked ms : List ℕ) → Wrote xs steps room n was path marked ms →
-    n ≤ room → (r : Counts) → r.points ≡ n → r.cuts ≡ marks_of cut_kind (take (2 * n) ms) → r.back_steps ≡ marks_of back_step_kind (take (2 * n) ms) →
-    r.jumps ≡ marks_of jump_kind (take (2 * n) ms) → r.touches ≡ marks_of touch_kind (take (2 * n) ms) → r ≡ counts steps
-unfolding counts over
-counted xs steps room n was path marked ms w l r a b d e f =
-    let k : length steps ≡ n = omega (arith, w.counted) in
-    let all = take_all room steps (omega arith) in
-    let t : take (2 * n) ms ≡ marks steps =
-    ap (take (2 * n)) (rw all at w.kinds) ∙ take_at (marks steps) _ (2 * n) (omega (arith, marks_length steps, k)) in
-    rw (a ∙ sym k, b ∙ ap (marks_of cut_kind) t, d ∙ ap (marks_of back_step_kind) t, e ∙ ap (marks_of jump_kind) t, f ∙ ap (marks_of touch_kind) t)
+-- what the written parts of the slices are, where the path has n points
+pub parts : (xs : List Float) (steps : List Step) (room n : ℕ) (was path : List Float) (marked ms : List ℕ) → Wrote xs steps room n was path marked ms →
+    n ≤ room → (n ≡ length steps) × (take (2 * n) path ≡ coordinates xs (vertices steps)) × (take (2 * n) ms ≡ marks steps)
+unfolding over
+parts xs steps room n was path marked ms w l =
+    let k : n ≡ length steps = omega (arith, w.counted) in
+    let all = take_all room steps (omega arith) in (
+      k,
+      ap (take (2 * n)) (rw all at w.points)
+          ∙ take_at (coordinates xs (vertices steps)) _ (2 * n) (omega (arith, coordinates_length xs (vertices steps), vertices_length steps)),
+      ap (take (2 * n)) (rw all at w.kinds) ∙ take_at (marks steps) _ (2 * n) (omega (arith, marks_length steps)),
+    )
+
+module _ (p : Plate) (room n : ℕ) (was path : List Float) (marked ms : List ℕ) (w : Wrote p.points (retrace p) room n was path marked ms) (l : n ≤ room) where
+  -- what these parts come to is what the path comes to
+  pub counted : (r : Totals) → r ≡ totals n (take (2 * n) path) (take (2 * n) ms) → r ≡ path_totals p (retrace p)
+  unfolding path_totals
+  counted r e = let (k, points, kinds) = parts p.points (retrace p) room n was path marked ms w l in rw (e, points, kinds, k)
+
+  -- and they can be added up
+  pub walked : Accepted p.points p.lengths → AllTakePart p → Walked (take (2 * n) path) (take (2 * n) ms) n
+  walked a t =
+      let (k, points, kinds) = parts p.points (retrace p) room n was path marked ms w l in
+      rw (points, kinds, k) (retrace_walked p a t)

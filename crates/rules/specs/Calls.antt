@@ -5,9 +5,10 @@ use Rattle.rules.specs.HandedOver.{Plate, order_room, straight_room, retrace_roo
 use Rattle.rules.specs.Distances.{distance_squared, distance}
 use Rattle.rules.specs.Start.{Oriented, start}
 use Rattle.rules.specs.RetraceAndMarks.{cut_kind, back_step_kind, jump_kind, touch_kind, Step, retrace, coordinates, marks, marks_of}
+use Rattle.rules.specs.Lengths.{is_cut, is_back_step, is_jump_or_touch, length_along}
 use Rattle.rules.specs.OrderAndStraight.{order, entries, straight}
 use Rattle.rules.specs.declared.Point.{Point}
-use Rattle.rules.specs.declared.Counts.{Counts}
+use Rattle.rules.specs.declared.Totals.{Totals}
 
 -- squared and plain distance
 unfoldable pub distance_call : Point → Point → Answer (Float × Float)
@@ -45,25 +46,32 @@ straight_call p path w =
     let a = refused_by (order_rows p w c (length r)) (gives (length r)) in
     record { answer = a; path = after a c (coordinates p.points r) path }
 
--- path points, and the cuts, back-steps, jumps and touches that the marks have
-unfoldable pub counts : List Step → Counts
-counts path =
-    let ms = marks path in
+-- The totals of n path points: how many cuts, back-steps, jumps and touches there are, and how long the cuts, the back-steps, and the jumps and touches are. xs and
+-- ms are the coordinates and the marks of these points, and hold nothing else.
+unfoldable pub totals : ℕ → List Float → List ℕ → Totals
+totals n xs ms =
     record {
-      points = length path;
+      points = n;
       cuts = marks_of cut_kind ms;
       back_steps = marks_of back_step_kind ms;
       jumps = marks_of jump_kind ms;
       touches = marks_of touch_kind ms;
+      cut_length = length_along is_cut n xs ms;
+      back_step_length = length_along is_back_step n xs ms;
+      jump_length = length_along is_jump_or_touch n xs ms;
     }
 
 -- the vertices of the path points
 unfoldable pub vertices : List Step → List ℕ
 vertices path = map (λ s. s.vertex) path
 
+-- the totals of a plate's path
+unfoldable pub path_totals : Plate → List Step → Totals
+path_totals p path = totals (length path) (coordinates p.points (vertices path)) (marks path)
+
 -- `path` and `ms` are the path and the marks slice, w and d the lengths of the u32 and the f64 work slice
 pub record RetraceOutcome : Type 0 where
-  pub answer : Answer Counts
+  pub answer : Answer Totals
   pub path : List Float
   pub marks : List ℕ
 
@@ -71,5 +79,5 @@ unfoldable pub retrace_call : Plate → List Float → List ℕ → ℕ → ℕ 
 retrace_call p path ms w d =
     let c = retrace_room (length path) (length ms) in
     let r = retrace p in
-    let a = refused_by (retrace_rows p w d c (length r)) (gives (counts r)) in
+    let a = refused_by (retrace_rows p w d c (length r)) (gives (path_totals p r)) in
     record { answer = a; path = after a c (coordinates p.points (vertices r)) path; marks = after a c (marks r) ms }

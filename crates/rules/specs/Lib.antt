@@ -7,8 +7,10 @@ pub mod Start
 pub mod GridAndNearest
 pub mod SamplesAndCache
 pub mod RetraceAndMarks
+pub mod Lengths
 pub mod OrderAndStraight
 pub mod Calls
 pub mod Marks
 pub mod MarkedPlates
+pub mod QuotedLengths
 pub mod FreedWork

@@ -1,11 +1,11 @@
--- The marked plates of document 01, as rows of one table that one theorem covers. Rows A to I come first. The rows after them have no letter; each tells a
+-- The marked plates of document 01, as rows of two tables, each with a theorem. Rows A to I come first. The rows after them have no letter; each tells a
 -- mistake apart that its comment names.
 -- No expected value comes from the definitions. Paths, orders, starts, distances and grids are what the Rust gives for these plates, its functions unchanged.
 -- Marks are those of a separate transcription of the Rust that writes marks too, its paths being equal to the Rust's; counts are how many marks there are
--- of a kind. A jump of these between equal points is a touch, kind 4, by document 02's text. Refusals, their places and what the slices then hold follow
--- document 01's text, and the rows of touches, of layers and of the parked point document 02's, worked out by hand; with Home the starts, orders and paths are
--- also what the Rust gives with Inside, its centre replaced by the parked point. The row of a plate in another box than its points' own, which the Rust cannot
--- be given, is worked out by hand too.
+-- of a kind, and lengths are worked out from these paths and marks in exact fractions of the roots that the Rust gives. A jump of these between equal points is a touch, kind 4, by document
+-- 02's text. Refusals, their places and what the slices then hold follow document 01's text, and the rows of touches, of layers and of the parked point
+-- document 02's, worked out by hand; with Home the starts, orders and paths are also what the Rust gives with Inside, its centre replaced by the parked point.
+-- The row of a plate in another box than its points' own, which the Rust cannot be given, is worked out by hand too.
 use Rattle.std.specs.Prelude.{◌≡◌, refl, ℕ, zero, suc, ◌+◌, ◌*◌, ◌^◌, Bool, true, false, List, [], ◌∷◌, ◌++◌, map, pos, negsuc, length, replicate, Float}
 use Rattle.std.specs.Float.{nan, inf, fin, binary64}
 use Rattle.std.specs.Float.Ieee.{round, neg, add, sub, mul, div, rem, le, eq, of_int, to_unsigned}
@@ -23,11 +23,12 @@ use Rattle.rules.specs.SamplesAndCache.{met, listed, listed_row, listed_square, 
 use Rattle.rules.specs.SamplesAndCache.{waiting, ask_path, keep, seed, update}
 use Rattle.rules.specs.RetraceAndMarks.{coincide, landing_kind, land, cut_up, cut_down, back_step, step_at, vertex_of, walk_to, walk_back, forward as forwardSteps, backward}
 use Rattle.rules.specs.RetraceAndMarks.{return_to, both_ways, emit, entry_of, begin, path_points, closer, waiting_layer, choose, waiting_number, place_in, entered, join_all}
-use Rattle.rules.specs.RetraceAndMarks.{retrace_from, retrace_of, retrace, coordinates, marks, count_marks, marks_of}
+use Rattle.rules.specs.RetraceAndMarks.{retrace_from, retrace_of, retrace, coordinates, marks, kind_at, count_marks, marks_of}
+use Rattle.rules.specs.Lengths.{in_1024ths, pair_length, counted_length, length_along}
 use Rattle.rules.specs.OrderAndStraight.{last_end, nearer_sense, nearer_end, contour_number, order_after, order_from, order_of, order, entries, straight}
-use Rattle.rules.specs.Calls.{distance_call, start_or, start_call, order_call, straight_call, counts, vertices, retrace_call}
+use Rattle.rules.specs.Calls.{distance_call, start_or, start_call, order_call, straight_call, totals, path_totals, vertices, retrace_call}
 use Rattle.rules.specs.declared.Point.{Point}
-use Rattle.rules.specs.declared.Counts.{Counts}
+use Rattle.rules.specs.declared.Totals.{Totals}
 use Rattle.rules.specs.declared.StartPointStrategy.{StartPointStrategy}
 use Rattle.rules.specs.declared.StartPointStrategy.TheVariants.{Outside, Inside, Home}
 
@@ -40,7 +41,7 @@ whole n = of_int binary64 (pos n)
 unfoldable pub decimal : ℕ → ℕ → Float
 decimal n k = round binary64 false n (10 ^ k)
 
-binary : ℕ → ℕ → Float
+unfoldable pub binary : ℕ → ℕ → Float
 binary n k = round binary64 false n (2 ^ k)
 
 unfoldable pub tenths : ℕ → Float
@@ -122,13 +123,14 @@ forward = false
 reversed : Bool
 reversed = true
 
--- path points, cuts, back-steps, jumps, touches
-touching : ℕ → ℕ → ℕ → ℕ → ℕ → Answer Counts
-touching n s b j t = gives (record { points = n; cuts = s; back_steps = b; jumps = j; touches = t })
+-- path points, cuts, back-steps, jumps, touches, and how long the cuts, the back-steps, and the jumps and touches are
+touching : ℕ → ℕ → ℕ → ℕ → ℕ → ℕ × ℕ × ℕ → Answer Totals
+touching n s b j t (c, r, l) =
+    gives (record { points = n; cuts = s; back_steps = b; jumps = j; touches = t; cut_length = c; back_step_length = r; jump_length = l })
 
 -- no touches
-joined : ℕ → ℕ → ℕ → ℕ → Answer Counts
-joined n s b j = touching n s b j 0
+joined : ℕ → ℕ → ℕ → ℕ → ℕ × ℕ × ℕ → Answer Totals
+joined n s b j lengths = touching n s b j 0 lengths
 
 -- ---- rows
 
@@ -155,7 +157,7 @@ pub data Reply : Type 0 where
   starts : Answer (ℕ × Bool) → Reply
   ordered : Answer ℕ → List ℕ → Reply
   straightened : Answer ℕ → List Float → Reply
-  retraced : Answer Counts → List Float → List ℕ → Reply
+  retraced : Answer Totals → List Float → List ℕ → Reply
   -- C for order, straight and retrace
   room : ℕ → ℕ → ℕ → Reply
   -- cell size, columns and rows
@@ -182,7 +184,7 @@ retrace_in : ℕ → Plate → Call
 retrace_in c p = retrace_on p (2 * c) (2 * c) 100000 100000
 
 -- the retrace call with room for just this path and these marks
-retraces : Plate → List Float → List (ℕ × ℕ) → Answer Counts → Row
+retraces : Plate → List Float → List (ℕ × ℕ) → Answer Totals → Row
 retraces p path ms c = retrace_in (length ms) p ⇒ retraced c path (pairs ms)
 
 -- A float itself, with its numbers computed: what the definitions give passes through this, so that a check that fails does so at once.
@@ -212,6 +214,20 @@ both_computed : Answer (Float × Float) → Answer (Float × Float)
 both_computed (gives d) = gives (computed d.0, computed d.1)
 both_computed (refuses number place) = refuses number place
 
+measured : Answer Totals → Answer Totals
+measured (gives t) =
+    gives (record {
+      points = t.points;
+      cuts = t.cuts;
+      back_steps = t.back_steps;
+      jumps = t.jumps;
+      touches = t.touches;
+      cut_length = numeral t.cut_length;
+      back_step_length = numeral t.back_step_length;
+      jump_length = numeral t.jump_length;
+    })
+measured (refuses number place) = refuses number place
+
 -- what the definitions reply
 pub reply_to : Call → Reply
 reply_to (distance_of a b) = distances (both_computed (distance_call a b))
@@ -222,7 +238,7 @@ reply_to (two_roundings a b) =
 reply_to (start_on p) = starts (start_call p)
 reply_to (order_on p n w) = let o = order_call p (unwritten n) w in ordered o.answer o.order
 reply_to (straight_on p n w) = let o = straight_call p (unwritten_path n) w in straightened o.answer (map computed o.path)
-reply_to (retrace_on p n m w d) = let o = retrace_call p (unwritten_path n) (unwritten m) w d in retraced o.answer (map computed o.path) o.marks
+reply_to (retrace_on p n m w d) = let o = retrace_call p (unwritten_path n) (unwritten m) w d in retraced (measured o.answer) (map computed o.path) o.marks
 reply_to (room_in n) = room (order_room n) (straight_room n) (retrace_room n n)
 reply_to (grid_on p) = let g = grid_of p.box in grid (computed g.cell_size) g.cols g.rows
 reply_to (rules_on p) = ruled (start_or (start p)) (entries (order p)) (marks (retrace p))
@@ -298,12 +314,12 @@ above_plate_limit = binary (1000000 * 2 ^ 33 + 1) 33
 above_distance_limit : Float
 above_distance_limit = binary (2 ^ 52 + 1) 21
 
--- ---- the table
+-- ---- the tables
 
 pub table : List Row
 table =
     -- A: none: empty path; start call 7. The slices stay as they were.
-    retrace_in 2 A ⇒ retraced (joined 0 0 0 0) (unwritten_path 4) (unwritten 4)
+    retrace_in 2 A ⇒ retraced (joined 0 0 0 0 (0, 0, 0)) (unwritten_path 4) (unwritten 4)
     ∷ straight_in 2 A ⇒ straightened (gives 0) (unwritten_path 4)
     ∷ order_in 2 A ⇒ ordered (gives 0) (unwritten 4)
     ∷ start_on A ⇒ starts (refuses 7 0)
@@ -317,12 +333,12 @@ table =
     ∷ retraces D
     (along whole ((0, 0) ∷ (4, 0) ∷ (4, 1) ∷ (8, 1) ∷ []))
     ((0, 0) ∷ (1, 0) ∷ (3, 2) ∷ (1, 2) ∷ [])
-    (joined 4 2 0 1)
+    (joined 4 2 0 1 (8192, 0, 1024))
     -- E: path and marks, with C = 6
     ∷ retraces E
     (along whole ((0, 0) ∷ (4, 0) ∷ (8, 0) ∷ (4, 0) ∷ (0, 0) ∷ (0, 1) ∷ []))
     ((0, 0) ∷ (1, 0) ∷ (1, 1) ∷ (2, 1) ∷ (2, 0) ∷ (3, 3) ∷ [])
-    (joined 6 2 2 1)
+    (joined 6 2 2 1 (8192, 8192, 1024))
     -- E with C = 4: refusal 6 and four points, four marks
     ∷ retrace_in 4 E
     ⇒ retraced (refuses 6 4)
@@ -332,7 +348,7 @@ table =
     ∷ retraces F
     (along whole ((4, 0) ∷ (4, 1) ∷ (8, 1) ∷ (4, 1) ∷ (0, 1) ∷ []))
     ((0, 0) ∷ (3, 2) ∷ (1, 2) ∷ (2, 1) ∷ (1, 1) ∷ [])
-    (joined 5 2 1 1)
+    (joined 5 2 1 1 (8192, 4096, 1024))
     -- G: straight in that order
     ∷ order_in 3 G ⇒ ordered (gives 3) (pairs ((0, 0) ∷ (1, 0) ∷ (2, 0) ∷ []))
     ∷ straight_in 3 G ⇒ straightened (gives 3) (along whole ((0, 0) ∷ (1, 0) ∷ (0, 1) ∷ []))
@@ -340,7 +356,7 @@ table =
     ∷ retraces G
     (along whole ((0, 0) ∷ (1, 0) ∷ (0, 0) ∷ (0, 1) ∷ []))
     ((0, 0) ∷ (3, 1) ∷ (2, 0) ∷ (3, 2) ∷ [])
-    (joined 4 0 1 2)
+    (joined 4 0 1 2 (0, 1024, 2048))
     -- H: 25 and 5
     ∷ distance_of zero_point (point (whole 3) (whole 4)) ⇒ distances (gives (whole 25, whole 5))
     -- I: squared 1 + 2^−26 + 2^−52 (and plain 1 + 2^−27); two roundings would give 1 + 2^−26
@@ -385,251 +401,256 @@ table =
     ∷ retraces (drawn whole ((0, 0) ∷ [] ∣ (1, 0) ∷ (0, 1) ∷ [] ∣ []) 0 0 Outside)
     (along whole ((1, 0) ∷ (0, 1) ∷ (0, 0) ∷ []))
     ((0, 1) ∷ (1, 1) ∷ (3, 0) ∷ [])
-    (joined 3 1 0 1)
+    (joined 3 1 0 1 (1448, 0, 1024))
     -- the search does not stop at ring 1
     ∷ retraces (drawn whole ((0, 2) ∷ (3, 0) ∷ [] ∣ (1, 0) ∷ [] ∣ []) 4 0 Inside)
     (along whole ((3, 0) ∷ (0, 2) ∷ (3, 0) ∷ (1, 0) ∷ []))
     ((0, 1) ∷ (1, 0) ∷ (2, 0) ∷ (3, 2) ∷ [])
-    (joined 4 1 1 1)
+    (joined 4 1 1 1 (3692, 3692, 2048))
     -- ring 1 is searched though ring 0 had a point: the one in the next cell is nearer
     ∷ retraces (drawn sixteenths ((0, 0) ∷ (800, 8) ∷ (177, 8) ∷ (161, 8) ∷ [] ∣ (175, 8) ∷ [] ∣ []) 0 0 Inside)
     (along sixteenths ((0, 0) ∷ (800, 8) ∷ (177, 8) ∷ (161, 8) ∷ (177, 8) ∷ (175, 8) ∷ []))
     ((0, 0) ∷ (1, 0) ∷ (1, 1) ∷ (1, 2) ∷ (2, 2) ∷ (3, 4) ∷ [])
-    (joined 6 3 1 1)
+    (joined 6 3 1 1 (92098, 1024, 128))
     -- ring 2 is searched: the bound is (r − 1) × s, not r × s
     ∷ retraces (drawn sixteenths ((0, 0) ∷ (800, 8) ∷ (193, 8) ∷ (152, 8) ∷ [] ∣ (175, 8) ∷ [] ∣ []) 0 0 Inside)
     (along sixteenths ((0, 0) ∷ (800, 8) ∷ (193, 8) ∷ (152, 8) ∷ (193, 8) ∷ (175, 8) ∷ []))
     ((0, 0) ∷ (1, 0) ∷ (1, 1) ∷ (1, 2) ∷ (2, 2) ∷ (3, 4) ∷ [])
-    (joined 6 3 1 1)
+    (joined 6 3 1 1 (92674, 2624, 1152))
     -- the same in whole numbers
     ∷ retraces (drawn whole ((0, 2) ∷ (2, 0) ∷ (1, 0) ∷ (3, 1) ∷ [] ∣ (3, 0) ∷ [] ∣ []) 0 0 Outside)
     (along whole ((3, 1) ∷ (1, 0) ∷ (2, 0) ∷ (0, 2) ∷ (2, 0) ∷ (3, 0) ∷ []))
     ((0, 3) ∷ (1, 2) ∷ (1, 1) ∷ (1, 0) ∷ (2, 2) ∷ (3, 4) ∷ [])
-    (joined 6 3 1 1)
+    (joined 6 3 1 1 (6209, 2896, 1024))
     -- a ring whose bound equals the best is still searched; the bound is the square of (r − 1) × s, rounded before it is squared
     ∷ retraces (drawn hundredths ((0, 0) ∷ (24, 0) ∷ [] ∣ (12, 0) ∷ [] ∣ []) 0 0 Inside)
     (along hundredths ((0, 0) ∷ (24, 0) ∷ (12, 0) ∷ []))
     ((0, 0) ∷ (1, 0) ∷ (3, 2) ∷ [])
-    (joined 3 1 0 1)
+    (joined 3 1 0 1 (245, 0, 122))
     -- ring 2 is left where its bound is above the best, though by rounded cell edges it holds a point as near and later
     ∷ retraces (drawn thousandths ((71, 2) ∷ (31, 2) ∷ [] ∣ (51, 2) ∷ [] ∣ []) 0 0 Inside)
     (along thousandths ((31, 2) ∷ (71, 2) ∷ (31, 2) ∷ (51, 2) ∷ []))
     ((0, 1) ∷ (1, 0) ∷ (2, 0) ∷ (3, 2) ∷ [])
-    (joined 4 1 1 1)
+    (joined 4 1 1 1 (40, 40, 20))
     -- the column is by (x − origin) × (1 / s), not by (x − origin) / s
     ∷ retraces (drawn hundredths ((13, 0) ∷ (29, 0) ∷ [] ∣ (21, 0) ∷ [] ∣ []) 8 0 Outside)
     (along hundredths ((13, 0) ∷ (29, 0) ∷ (21, 0) ∷ []))
     ((0, 0) ∷ (1, 0) ∷ (3, 2) ∷ [])
-    (joined 3 1 0 1)
+    (joined 3 1 0 1 (163, 0, 81))
     -- the same, with negative coordinates, and −0
     ∷ retraces (drawn minus_tenths ((11, 0) ∷ (61, 0) ∷ (19, 0) ∷ [] ∣ (15, 0) ∷ [] ∣ []) 0 0 Outside)
     (along minus_tenths ((19, 0) ∷ (61, 0) ∷ (11, 0) ∷ (61, 0) ∷ (19, 0) ∷ (15, 0) ∷ []))
     ((0, 2) ∷ (1, 1) ∷ (1, 0) ∷ (2, 1) ∷ (2, 0) ∷ (3, 3) ∷ [])
-    (joined 6 2 2 1)
+    (joined 6 2 2 1 (9420, 9420, 409))
     -- dy × dy alone is rounded before the sum
     ∷ retraces (drawn hundredths ((600, 0) ∷ (10, 4) ∷ [] ∣ (2, 0) ∷ [] ∣ (0, 0) ∷ (6, 2) ∷ (8, 10) ∷ (8, 8) ∷ (12, 6) ∷ (4, 6) ∷ [] ∣ []) 0 0 Outside)
     (along hundredths ((600, 0) ∷ (10, 4) ∷ (4, 6) ∷ (12, 6) ∷ (8, 8) ∷ (8, 10) ∷ (6, 2) ∷ (0, 0) ∷ (2, 0) ∷ []))
     ((0, 0) ∷ (1, 0) ∷ (3, 8) ∷ (1, 7) ∷ (1, 6) ∷ (1, 5) ∷ (1, 4) ∷ (1, 3) ∷ (3, 2) ∷ [])
-    (joined 9 6 0 2)
+    (joined 9 6 0 2 (6335, 0, 84))
     -- 50 cells, not 40 or 51
     ∷ retraces (drawn whole ((87, 1) ∷ [] ∣ (3, 1) ∷ [] ∣ (89, 0) ∷ [] ∣ (46, 1) ∷ [] ∣ []) 100 0 Inside)
     (along whole ((46, 1) ∷ (87, 1) ∷ (46, 1) ∷ (3, 1) ∷ (46, 1) ∷ (87, 1) ∷ (89, 0) ∷ []))
     ((0, 3) ∷ (3, 0) ∷ (2, 0) ∷ (3, 1) ∷ (2, 2) ∷ (2, 1) ∷ (3, 2) ∷ [])
-    (joined 7 0 3 3)
+    (joined 7 0 3 3 (0, 128000, 88305))
     -- the height of the box counts where it is above the width
     ∷ retraces (drawn whole ((30, 10) ∷ [] ∣ (65, 63) ∷ (65, 62) ∷ (65, 62) ∷ [] ∣ []) 100 0 Inside)
     (along whole ((30, 10) ∷ (65, 62) ∷ (65, 62) ∷ (65, 63) ∷ []))
     ((0, 0) ∷ (3, 3) ∷ (1, 2) ∷ (1, 1) ∷ [])
-    (joined 4 2 0 1)
+    (joined 4 2 0 1 (1024, 0, 64186))
     -- ---- samples and cache
     -- the last vertex is always a sample
     ∷ retraces (drawn whole ((57, 0) ∷ [] ∣ (97, 2) ∷ (96, 1) ∷ [] ∣ (11, 0) ∷ (10, 0) ∷ [] ∣ []) 0 0 Inside)
     (along whole ((10, 0) ∷ (11, 0) ∷ (57, 0) ∷ (96, 1) ∷ (97, 2) ∷ []))
     ((0, 4) ∷ (1, 3) ∷ (3, 0) ∷ (3, 2) ∷ (1, 1) ∷ [])
-    (joined 5 2 0 2)
+    (joined 5 2 0 2 (2472, 0, 87053))
     -- vertices whose total did not reach s are no samples
     ∷ retraces (drawn whole ((9, 0) ∷ (74, 0) ∷ (11, 32) ∷ [] ∣ (47, 2) ∷ (47, 1) ∷ (45, 2) ∷ [] ∣ []) 0 0 Inside)
     (along whole ((9, 0) ∷ (74, 0) ∷ (11, 32) ∷ (74, 0) ∷ (47, 2) ∷ (47, 1) ∷ (45, 2) ∷ []))
     ((0, 0) ∷ (1, 0) ∷ (1, 1) ∷ (2, 1) ∷ (3, 3) ∷ (1, 3) ∷ (1, 4) ∷ [])
-    (joined 7 4 1 1)
+    (joined 7 4 1 1 (142230, 72357, 27723))
     -- s is a fiftieth of the box, not a fortieth
     ∷ retraces (drawn whole ((59, 0) ∷ (60, 1) ∷ (59, 1) ∷ [] ∣ (99, 0) ∷ [] ∣ (34, 0) ∷ [] ∣ []) 100 0 Outside)
     (along whole ((99, 0) ∷ (60, 1) ∷ (59, 1) ∷ (60, 1) ∷ (59, 0) ∷ (34, 0) ∷ []))
     ((0, 3) ∷ (3, 1) ∷ (1, 1) ∷ (2, 1) ∷ (1, 0) ∷ (3, 4) ∷ [])
-    (joined 6 2 1 2)
+    (joined 6 2 1 2 (2472, 1024, 65549))
     -- a total equal to s reaches it
     ∷ retraces (drawn whole ((28, 1) ∷ (28, 2) ∷ (29, 1) ∷ (29, 1) ∷ [] ∣ (1, 3) ∷ (33, 50) ∷ [] ∣ (11, 2) ∷ (12, 3) ∷ [] ∣ (40, 0) ∷ [] ∣ []) 50 0 Outside)
     (along whole ((33, 50) ∷ (1, 3) ∷ (11, 2) ∷ (12, 3) ∷ (28, 2) ∷ (29, 1) ∷ (29, 1) ∷ (29, 1) ∷ (28, 2) ∷ (28, 1) ∷ (28, 2) ∷ (29, 1) ∷ (40, 0) ∷ []))
     ((0, 5) ∷ (1, 4) ∷ (3, 6) ∷ (1, 6) ∷ (3, 1) ∷ (1, 1) ∷ (1, 2) ∷ (2, 5) ∷ (2, 4) ∷ (1, 0) ∷ (2, 8) ∷ (2, 7) ∷ (3, 8) ∷ [])
-    (joined 13 5 4 3)
+    (joined 13 5 4 3 (62144, 3920, 38016))
     -- the total becomes its remainder by s, not 0: vertex 2 is the entry
     ∷ retraces (drawn whole ((4, 0) ∷ [] ∣ (0, 1) ∷ (3, 1) ∷ (4, 1) ∷ (4, 100) ∷ [] ∣ []) 8 0 Inside)
     (along whole ((4, 0) ∷ (4, 1) ∷ (4, 100) ∷ (4, 1) ∷ (3, 1) ∷ (0, 1) ∷ []))
     ((0, 0) ∷ (3, 3) ∷ (1, 3) ∷ (2, 1) ∷ (1, 2) ∷ (1, 1) ∷ [])
-    (joined 6 3 1 1)
+    (joined 6 3 1 1 (105472, 101376, 1024))
     -- the remainder is by s, not what is left after taking s once; and plain distances are added, not squared ones
     ∷ retraces (drawn hundredths ((0, 0) ∷ (5, 0) ∷ (6, 0) ∷ (1, 0) ∷ [] ∣ (7, 0) ∷ [] ∣ []) 0 0 Outside)
     (along hundredths ((7, 0) ∷ (5, 0) ∷ (6, 0) ∷ (1, 0) ∷ (6, 0) ∷ (5, 0) ∷ (0, 0) ∷ []))
     ((0, 4) ∷ (3, 1) ∷ (1, 1) ∷ (1, 2) ∷ (2, 2) ∷ (2, 1) ∷ (1, 0) ∷ [])
-    (joined 7 3 2 1)
+    (joined 7 3 2 1 (112, 61, 20))
     -- a box smaller than 1 counts as 1
     ∷ retraces (drawn sixty_fourths ((11, 3) ∷ [] ∣ (14, 0) ∷ (14, 1) ∷ (15, 2) ∷ [] ∣ []) 0 0 Inside)
     (along sixty_fourths ((11, 3) ∷ (15, 2) ∷ (14, 1) ∷ (14, 0) ∷ []))
     ((0, 0) ∷ (3, 3) ∷ (1, 2) ∷ (1, 1) ∷ [])
-    (joined 4 2 0 1)
+    (joined 4 2 0 1 (38, 0, 65))
     -- an equal distance replaces no cache
     ∷ retraces (drawn whole ((2, 0) ∷ (2, 0) ∷ [] ∣ (6, 1) ∷ [] ∣ []) 8 0 Outside)
     (along whole ((6, 1) ∷ (2, 0) ∷ (2, 0) ∷ []))
     ((0, 2) ∷ (3, 0) ∷ (1, 0) ∷ [])
-    (joined 3 1 0 1)
+    (joined 3 1 0 1 (0, 0, 4222))
     -- caches are updated after each later contour
     ∷ retraces (drawn whole ((0, 0) ∷ [] ∣ (2, 0) ∷ (0, 0) ∷ [] ∣ (1, 2) ∷ [] ∣ []) 0 0 Outside)
     (along whole ((1, 2) ∷ (0, 0) ∷ (0, 0) ∷ (2, 0) ∷ []))
     ((0, 3) ∷ (3, 0) ∷ (4, 2) ∷ (1, 1) ∷ [])
-    (touching 4 1 0 1 1)
+    (touching 4 1 0 1 1 (2048, 0, 2289))
     -- the listed cells are those within 1: not the own cell alone
     ∷ retraces (drawn whole ((6, 1) ∷ [] ∣ (44, 1) ∷ [] ∣ (5, 1) ∷ [] ∣ (25, 1) ∷ [] ∣ []) 50 0 Inside)
     (along whole ((25, 1) ∷ (6, 1) ∷ (5, 1) ∷ (6, 1) ∷ (25, 1) ∷ (44, 1) ∷ []))
     ((0, 3) ∷ (3, 0) ∷ (3, 2) ∷ (2, 1) ∷ (2, 0) ∷ (3, 1) ∷ [])
-    (joined 6 0 2 3)
+    (joined 6 0 2 3 (0, 20480, 39936))
     -- the row above too
     ∷ retraces (drawn whole ((1, 75) ∷ [] ∣ (1, 25) ∷ [] ∣ (1, 77) ∷ [] ∣ (1, 50) ∷ [] ∣ []) 0 100 Inside)
     (along whole ((1, 50) ∷ (1, 75) ∷ (1, 77) ∷ (1, 75) ∷ (1, 50) ∷ (1, 25) ∷ []))
     ((0, 3) ∷ (3, 0) ∷ (3, 2) ∷ (2, 1) ∷ (2, 0) ∷ (3, 1) ∷ [])
-    (joined 6 0 2 3)
+    (joined 6 0 2 3 (0, 27648, 53248))
     -- not those within 2
     ∷ retraces (drawn whole ((23, 3) ∷ [] ∣ (22, 3) ∷ (23, 5) ∷ [] ∣ (50, 2) ∷ [] ∣ []) 50 0 Outside)
     (along whole ((50, 2) ∷ (23, 3) ∷ (23, 5) ∷ (22, 3) ∷ []))
     ((0, 3) ∷ (3, 0) ∷ (3, 2) ∷ (1, 1) ∷ [])
-    (joined 4 1 0 2)
+    (joined 4 1 0 2 (2289, 0, 29714))
     -- samples in other cells are not queried again
     ∷ retraces (drawn whole ((30, 2) ∷ [] ∣ (50, 0) ∷ [] ∣ (27, 0) ∷ (27, 1) ∷ [] ∣ []) 0 0 Outside)
     (along whole ((50, 0) ∷ (30, 2) ∷ (27, 0) ∷ (27, 1) ∷ []))
     ((0, 1) ∷ (3, 0) ∷ (3, 2) ∷ (1, 2) ∷ [])
-    (joined 4 1 0 2)
+    (joined 4 1 0 2 (1024, 0, 24274))
     -- cells around each point are listed, not only around the ends
     ∷ retraces (drawn whole ((4, 0) ∷ [] ∣ (1, 0) ∷ [] ∣ (3, 0) ∷ [] ∣ (2, 0) ∷ (1, 0) ∷ (4, 0) ∷ [] ∣ []) 4 0 Outside)
     (along whole ((4, 0) ∷ (4, 0) ∷ (1, 0) ∷ (2, 0) ∷ (1, 0) ∷ (1, 0) ∷ (1, 0) ∷ (2, 0) ∷ (3, 0) ∷ []))
     ((0, 0) ∷ (4, 5) ∷ (1, 4) ∷ (1, 3) ∷ (2, 2) ∷ (4, 1) ∷ (2, 4) ∷ (2, 3) ∷ (3, 2) ∷ [])
-    (touching 9 2 3 1 2)
+    (touching 9 2 3 1 2 (4096, 2048, 1024))
     -- samples are queried by cell, not by contour
     ∷ retraces (drawn whole ((3, 0) ∷ (4, 0) ∷ [] ∣ (4, 0) ∷ (3, 0) ∷ [] ∣ (0, 0) ∷ [] ∣ (4, 1) ∷ [] ∣ []) 0 0 Outside)
     (along whole ((4, 1) ∷ (4, 0) ∷ (3, 0) ∷ (3, 0) ∷ (4, 0) ∷ (3, 0) ∷ (0, 0) ∷ []))
     ((0, 5) ∷ (3, 1) ∷ (1, 0) ∷ (4, 3) ∷ (1, 2) ∷ (2, 3) ∷ (3, 4) ∷ [])
-    (touching 7 2 1 2 1)
+    (touching 7 2 1 2 1 (2048, 1024, 4096))
     -- cells are listed by points in vertex order, not in the order of emission
     ∷ retraces (drawn whole ((8, 0) ∷ (4, 0) ∷ [] ∣ (1, 0) ∷ [] ∣ (8, 0) ∷ (4, 0) ∷ [] ∣ []) 0 0 Inside)
     (along whole ((1, 0) ∷ (4, 0) ∷ (8, 0) ∷ (8, 0) ∷ (4, 0) ∷ []))
     ((0, 2) ∷ (3, 1) ∷ (1, 0) ∷ (4, 3) ∷ (1, 3) ∷ [])
-    (touching 5 2 0 1 1)
+    (touching 5 2 0 1 1 (8192, 0, 3072))
     -- cells are listed by rows, then columns
     ∷ retraces (drawn whole ((27, 1) ∷ [] ∣ (27, 2) ∷ (28, 1) ∷ [] ∣ (0, 1) ∷ [] ∣ []) 0 0 Inside)
     (along whole ((0, 1) ∷ (27, 1) ∷ (28, 1) ∷ (27, 2) ∷ []))
     ((0, 3) ∷ (3, 0) ∷ (3, 2) ∷ (1, 1) ∷ [])
-    (joined 4 1 0 2)
+    (joined 4 1 0 2 (1448, 0, 28672))
     -- rows from the lowest
     ∷ retraces (drawn whole ((8, 1) ∷ [] ∣ (8, 2) ∷ (7, 1) ∷ [] ∣ (50, 1) ∷ [] ∣ []) 8 0 Outside)
     (along whole ((50, 1) ∷ (8, 1) ∷ (7, 1) ∷ (8, 2) ∷ []))
     ((0, 3) ∷ (3, 0) ∷ (3, 2) ∷ (1, 1) ∷ [])
-    (joined 4 1 0 2)
+    (joined 4 1 0 2 (1448, 0, 44032))
     -- columns from the lowest
     ∷ retraces (drawn whole ((50, 0) ∷ [] ∣ (8, 0) ∷ (7, 0) ∷ [] ∣ (7, 0) ∷ (8, 0) ∷ [] ∣ []) 8 0 Outside)
     (along whole ((50, 0) ∷ (8, 0) ∷ (7, 0) ∷ (7, 0) ∷ (8, 0) ∷ []))
     ((0, 0) ∷ (3, 1) ∷ (1, 1) ∷ (4, 3) ∷ (1, 3) ∷ [])
-    (touching 5 2 0 1 1)
+    (touching 5 2 0 1 1 (2048, 0, 43008))
     -- the point's own cell is not listed before the row below it
     ∷ retraces (drawn whole ((0, 2) ∷ (0, 1) ∷ [] ∣ (29, 1) ∷ [] ∣ (0, 1) ∷ (0, 2) ∷ [] ∣ []) 0 0 Outside)
     (along whole ((29, 1) ∷ (0, 1) ∷ (0, 2) ∷ (0, 1) ∷ (0, 1) ∷ (0, 2) ∷ []))
     ((0, 2) ∷ (3, 1) ∷ (1, 0) ∷ (2, 1) ∷ (4, 3) ∷ (1, 3) ∷ [])
-    (touching 6 2 1 1 1)
+    (touching 6 2 1 1 1 (2048, 1024, 29696))
     -- within a cell from the lowest vertex
     ∷ retraces (drawn whole ((0, 1) ∷ (0, 1) ∷ [] ∣ (0, 2) ∷ [] ∣ (34, 3) ∷ [] ∣ []) 0 0 Outside)
     (along whole ((34, 3) ∷ (0, 2) ∷ (0, 1) ∷ (0, 1) ∷ []))
     ((0, 3) ∷ (3, 2) ∷ (3, 0) ∷ (1, 0) ∷ [])
-    (joined 4 1 0 2)
+    (joined 4 1 0 2 (0, 0, 35855))
+    ∷ []
+
+-- two tables, since the check of one declaration may take so many steps and no more
+pub later_table : List Row
+later_table =
     -- ---- retrace and marks
     -- the place is the fresh one, not the cached one
-    ∷ retraces (drawn whole ((1, 8) ∷ [] ∣ (7, 0) ∷ [] ∣ (7, 2) ∷ [] ∣ []) 0 0 Outside)
+    retraces (drawn whole ((1, 8) ∷ [] ∣ (7, 0) ∷ [] ∣ (7, 2) ∷ [] ∣ []) 0 0 Outside)
     (along whole ((1, 8) ∷ (7, 2) ∷ (7, 0) ∷ []))
     ((0, 0) ∷ (3, 2) ∷ (3, 1) ∷ [])
-    (joined 3 0 0 2)
+    (joined 3 0 0 2 (0, 0, 10736))
     -- a return to e of two steps, after a walk-back: its references are places of the path
     ∷ retraces (drawn whole ((4, 0) ∷ (13, 0) ∷ [] ∣ (0, 1) ∷ (4, 1) ∷ (8, 1) ∷ (12, 1) ∷ [] ∣ []) 8 0 Inside)
     (along whole ((4, 0) ∷ (13, 0) ∷ (4, 0) ∷ (4, 1) ∷ (8, 1) ∷ (12, 1) ∷ (8, 1) ∷ (4, 1) ∷ (0, 1) ∷ []))
     ((0, 0) ∷ (1, 0) ∷ (2, 0) ∷ (3, 3) ∷ (1, 3) ∷ (1, 4) ∷ (2, 4) ∷ (2, 3) ∷ (1, 2) ∷ [])
-    (joined 9 4 3 1)
+    (joined 9 4 3 1 (21504, 17408, 1024))
     -- the grid, and the samples by it, lie over the plate's box: where the cells are larger than the contour only its ends are samples
     ∷ retraces over_middle
     (along whole ((4, 1) ∷ (4, 0) ∷ (8, 0) ∷ (4, 0) ∷ (0, 0) ∷ []))
     ((0, 0) ∷ (3, 2) ∷ (1, 2) ∷ (2, 1) ∷ (1, 1) ∷ [])
-    (joined 5 2 1 1)
+    (joined 5 2 1 1 (8192, 4096, 1024))
     ∷ retraces (in_wide_box over_middle)
     (along whole ((4, 1) ∷ (0, 0) ∷ (4, 0) ∷ (8, 0) ∷ []))
     ((0, 0) ∷ (3, 1) ∷ (1, 1) ∷ (1, 2) ∷ [])
-    (joined 4 2 0 1)
+    (joined 4 2 0 1 (8192, 0, 4222))
     -- touches: an end meets an end
     ∷ retraces (drawn whole ((0, 0) ∷ (4, 0) ∷ [] ∣ (4, 0) ∷ [] ∣ []) 0 0 Inside)
     (along whole ((0, 0) ∷ (4, 0) ∷ (4, 0) ∷ []))
     ((0, 0) ∷ (1, 0) ∷ (4, 2) ∷ [])
-    (touching 3 1 0 0 1)
+    (touching 3 1 0 0 1 (4096, 0, 0))
     -- one after the other
     ∷ retraces (drawn whole ((1, 1) ∷ [] ∣ (1, 1) ∷ [] ∣ (1, 1) ∷ [] ∣ []) 0 0 Inside)
     (along whole ((1, 1) ∷ (1, 1) ∷ (1, 1) ∷ []))
     ((0, 0) ∷ (4, 1) ∷ (4, 2) ∷ [])
-    (touching 3 0 0 0 2)
+    (touching 3 0 0 0 2 (0, 0, 0))
     -- 0 and −0 are equal; the path has the landing's own bits
     ∷ retraces (plate (whole 0 ∷ neg (whole 0) ∷ neg (whole 0) ∷ whole 0 ∷ whole 4 ∷ whole 0 ∷ []) (1 ∷ 2 ∷ []) (0 ∷ 0 ∷ []) 0 0 Inside)
     (whole 0 ∷ neg (whole 0) ∷ neg (whole 0) ∷ whole 0 ∷ whole 4 ∷ whole 0 ∷ [])
     ((0, 0) ∷ (4, 1) ∷ (1, 1) ∷ [])
-    (touching 3 1 0 0 1)
+    (touching 3 1 0 0 1 (4096, 0, 0))
     -- a squared distance of 0 is no touch where a coordinate differs: 0 and the least number above it, as x and as y
     ∷ retraces (plate (whole 0 ∷ whole 0 ∷ binary 1 1074 ∷ whole 0 ∷ []) (1 ∷ 1 ∷ []) (0 ∷ 0 ∷ []) 0 0 Inside)
     (whole 0 ∷ whole 0 ∷ binary 1 1074 ∷ whole 0 ∷ [])
     ((0, 0) ∷ (3, 1) ∷ [])
-    (joined 2 0 0 1)
+    (joined 2 0 0 1 (0, 0, 0))
     ∷ retraces (plate (whole 0 ∷ whole 0 ∷ whole 0 ∷ binary 1 1074 ∷ []) (1 ∷ 1 ∷ []) (0 ∷ 0 ∷ []) 0 0 Inside)
     (whole 0 ∷ whole 0 ∷ whole 0 ∷ binary 1 1074 ∷ [])
     ((0, 0) ∷ (3, 1) ∷ [])
-    (joined 2 0 0 1)
+    (joined 2 0 0 1 (0, 0, 0))
     -- The fresh place decides, and not the cached one: the third point was cached at (0,0), and the second's place is as near, and higher.
     ∷ retraces (plate (whole 0 ∷ whole 0 ∷ binary 1 1074 ∷ whole 0 ∷ binary 1 1074 ∷ whole 0 ∷ []) (1 ∷ 1 ∷ 1 ∷ []) (0 ∷ 0 ∷ 0 ∷ []) 0 0 Inside)
     (whole 0 ∷ whole 0 ∷ binary 1 1074 ∷ whole 0 ∷ binary 1 1074 ∷ whole 0 ∷ [])
     ((0, 0) ∷ (3, 1) ∷ (4, 2) ∷ [])
-    (touching 3 0 0 1 1)
+    (touching 3 0 0 1 1 (0, 0, 0))
     -- and only the point that is left counts: an equal one lies before it on the path, at place 0
     ∷ retraces (plate (whole 0 ∷ whole 0 ∷ binary 1 1074 ∷ whole 0 ∷ whole 0 ∷ whole 0 ∷ []) (1 ∷ 1 ∷ 1 ∷ []) (0 ∷ 0 ∷ 0 ∷ []) 0 0 Inside)
     (whole 0 ∷ whole 0 ∷ binary 1 1074 ∷ whole 0 ∷ whole 0 ∷ whole 0 ∷ [])
     ((0, 0) ∷ (3, 1) ∷ (3, 2) ∷ [])
-    (joined 3 0 0 2)
+    (joined 3 0 0 2 (0, 0, 0))
     -- into the middle of a contour
     ∷ retraces (drawn whole ((4, 0) ∷ [] ∣ (0, 0) ∷ (4, 0) ∷ (8, 0) ∷ [] ∣ []) 8 0 Inside)
     (along whole ((4, 0) ∷ (4, 0) ∷ (8, 0) ∷ (4, 0) ∷ (0, 0) ∷ []))
     ((0, 0) ∷ (4, 2) ∷ (1, 2) ∷ (2, 1) ∷ (1, 1) ∷ [])
-    (touching 5 2 1 0 1)
+    (touching 5 2 1 0 1 (8192, 4096, 0))
     -- the point left is where the walk back ends, not where the path ended
     ∷ retraces (drawn whole ((0, 0) ∷ (4, 0) ∷ [] ∣ (0, 0) ∷ [] ∣ []) 0 0 Inside)
     (along whole ((0, 0) ∷ (4, 0) ∷ (0, 0) ∷ (0, 0) ∷ []))
     ((0, 0) ∷ (1, 0) ∷ (2, 0) ∷ (4, 2) ∷ [])
-    (touching 4 1 1 0 1)
+    (touching 4 1 1 0 1 (4096, 4096, 0))
     -- a cut and a back-step between equal points stay what they are: the back-step at place 5 takes back the touch
     ∷ retraces (drawn whole ((2, 0) ∷ (2, 0) ∷ [] ∣ []) 0 0 Inside)
     (along whole ((2, 0) ∷ (2, 0) ∷ []))
     ((0, 0) ∷ (1, 0) ∷ [])
-    (joined 2 1 0 0)
+    (joined 2 1 0 0 (0, 0, 0))
     ∷ retraces middled
     (along whole ((0, 0) ∷ (4, 0) ∷ (8, 0) ∷ (4, 0) ∷ (4, 0) ∷ (4, 0) ∷ (8, 0) ∷ (4, 0) ∷ (0, 0) ∷ (0, 1) ∷ []))
     ((0, 0) ∷ (1, 0) ∷ (1, 1) ∷ (2, 1) ∷ (4, 4) ∷ (2, 3) ∷ (2, 2) ∷ (2, 1) ∷ (2, 0) ∷ (3, 3) ∷ [])
-    (touching 10 2 5 1 1)
+    (touching 10 2 5 1 1 (8192, 16384, 1024))
     -- the place that is walked back to is itself a back-step's: 3, and not 1
     ∷ retraces (in_layers (0 ∷ 0 ∷ 1 ∷ []) middled)
     (along whole ((0, 0) ∷ (4, 0) ∷ (8, 0) ∷ (4, 0) ∷ (0, 0) ∷ (0, 1) ∷ (0, 0) ∷ (4, 0) ∷ (4, 0) ∷ []))
     ((0, 0) ∷ (1, 0) ∷ (1, 1) ∷ (2, 1) ∷ (2, 0) ∷ (3, 3) ∷ (2, 4) ∷ (2, 3) ∷ (4, 4) ∷ [])
-    (touching 9 2 4 1 1)
+    (touching 9 2 4 1 1 (8192, 13312, 1024))
     -- contours that hold no point are skipped, and are no jumps
     ∷ retraces skipping
     (along whole ((0, 0) ∷ (4, 0) ∷ (5, 0) ∷ (9, 0) ∷ (5, 0) ∷ (4, 0) ∷ (0, 0) ∷ (1, 1) ∷ (1, 2) ∷ (1, 1) ∷ (0, 0) ∷ (4, 0) ∷ (5, 0) ∷ (9, 0) ∷ (9, 1) ∷ []))
     ((0, 0) ∷ (1, 0) ∷ (3, 3) ∷ (1, 2) ∷ (2, 2) ∷ (2, 1) ∷ (2, 0) ∷ (3, 4) ∷ (1, 4) ∷ (2, 7) ∷ (2, 6) ∷ (2, 5) ∷ (2, 4) ∷ (2, 3) ∷ (3, 6) ∷ [])
-    (joined 15 3 8 3)
+    (joined 15 3 8 3 (9216, 20904, 3496))
     -- ---- order and straight
     -- forward where forward ≤ reverse: an equal distance reverses nothing
     ∷ order_in 2 (drawn whole ((0, 0) ∷ [] ∣ (1, 0) ∷ (0, 1) ∷ [] ∣ []) 0 0 Inside) ⇒ ordered (gives 2) (pairs ((0, 0) ∷ (1, 0) ∷ []))
@@ -647,7 +668,7 @@ table =
     ∷ start_on (handed [] (replicate 4097 0)) ⇒ starts (refuses 1 0)
     ∷ start_on (handed [] (65537 ∷ replicate 4096 0)) ⇒ starts (refuses 1 0)
     ∷ retrace_on (handed [] (replicate 4097 0)) 3 2 0 0 ⇒ retraced (refuses 1 0) (unwritten_path 3) (unwritten 2)
-    ∷ retrace_on (handed [] (replicate 4096 0)) 3 2 (1 + 8 * 4096 + 16384) 4096 ⇒ retraced (joined 0 0 0 0) (unwritten_path 3) (unwritten 2)
+    ∷ retrace_on (handed [] (replicate 4096 0)) 3 2 (1 + 8 * 4096 + 16384) 4096 ⇒ retraced (joined 0 0 0 0 (0, 0, 0)) (unwritten_path 3) (unwritten 2)
     -- 2: P 65,537 gets it, before 3 and 5; the sum does not wrap at 2^32
     ∷ start_on (handed [] (65537 ∷ [])) ⇒ starts (refuses 2 0)
     ∷ start_on (handed (whole 0 ∷ whole 0 ∷ []) (4294967295 ∷ 2 ∷ [])) ⇒ starts (refuses 2 0)
@@ -670,7 +691,7 @@ table =
     ∷ retrace_on (handed (whole 0 ∷ nan ∷ []) (1 ∷ [])) 2 2 0 0 ⇒ retraced (refuses 4 1) (unwritten_path 2) (unwritten 2)
     -- 5: E with C = 6 needs 6 + 4 × 4 + 8 × 2 + 16,384 = 16,422 u32 and 2 f64; one short gets 5, u32 before f64, and alters no slice
     ∷ retrace_on E 12 12 16422 2
-    ⇒ retraced (joined 6 2 2 1)
+    ⇒ retraced (joined 6 2 2 1 (8192, 8192, 1024))
     (along whole ((0, 0) ∷ (4, 0) ∷ (8, 0) ∷ (4, 0) ∷ (0, 0) ∷ (0, 1) ∷ []))
     (pairs ((0, 0) ∷ (1, 0) ∷ (1, 1) ∷ (2, 1) ∷ (2, 0) ∷ (3, 3) ∷ []))
     ∷ retrace_on E 12 12 16421 2 ⇒ retraced (refuses 5 0) (unwritten_path 12) (unwritten 12)
@@ -698,10 +719,10 @@ table =
     ∷ retrace_on E 1 1 100000 2 ⇒ retraced (refuses 6 0) (unwritten_path 1) (unwritten 1)
     ∷ order_on G 1 3 ⇒ ordered (refuses 6 0) (unwritten 1)
     ∷ straight_on G 1 3 ⇒ straightened (refuses 6 0) (unwritten_path 1)
-    ∷ retrace_on A 0 0 16384 0 ⇒ retraced (joined 0 0 0 0) [] []
+    ∷ retrace_on A 0 0 16384 0 ⇒ retraced (joined 0 0 0 0 (0, 0, 0)) [] []
     -- a result alters nothing beyond it
     ∷ retrace_on E 15 16 100000 2
-    ⇒ retraced (joined 6 2 2 1)
+    ⇒ retraced (joined 6 2 2 1 (8192, 8192, 1024))
     (along whole ((0, 0) ∷ (4, 0) ∷ (8, 0) ∷ (4, 0) ∷ (0, 0) ∷ (0, 1) ∷ []) ++ unwritten_path 3)
     (pairs ((0, 0) ∷ (1, 0) ∷ (1, 1) ∷ (2, 1) ∷ (2, 0) ∷ (3, 3) ∷ []) ++ unwritten 4)
     ∷ order_on G 9 3 ⇒ ordered (gives 3) (pairs ((0, 0) ∷ (1, 0) ∷ (2, 0) ∷ []) ++ unwritten 3)
@@ -710,7 +731,7 @@ table =
     ∷ room_in 2097154 ⇒ room 1048577 1048576 1048576
     -- 7: the start call only; a contour that holds no point is none
     ∷ start_on (handed [] (0 ∷ 0 ∷ [])) ⇒ starts (refuses 7 0)
-    ∷ retrace_in 1 (handed [] (0 ∷ 0 ∷ [])) ⇒ retraced (joined 0 0 0 0) (unwritten_path 2) (unwritten 2)
+    ∷ retrace_in 1 (handed [] (0 ∷ 0 ∷ [])) ⇒ retraced (joined 0 0 0 0 (0, 0, 0)) (unwritten_path 2) (unwritten 2)
     -- ---- layers
     -- a nearer contour of a higher layer waits, in order, straight and retrace
     ∷ order_in 3 (in_layers (0 ∷ 1 ∷ 0 ∷ []) three_points) ⇒ ordered (gives 3) (pairs ((0, 0) ∷ (2, 0) ∷ (1, 0) ∷ []))
@@ -718,18 +739,18 @@ table =
     ∷ retraces (in_layers (0 ∷ 1 ∷ 0 ∷ []) three_points)
     (along whole ((0, 0) ∷ (0, 2) ∷ (0, 0) ∷ (1, 0) ∷ []))
     ((0, 0) ∷ (3, 2) ∷ (2, 0) ∷ (3, 1) ∷ [])
-    (joined 4 0 1 2)
+    (joined 4 0 1 2 (0, 2048, 3072))
     -- of the lowest layer the nearest is taken, though one of a higher layer is nearer
     ∷ order_in 4 (in_layers (0 ∷ 1 ∷ 0 ∷ 0 ∷ []) four_points) ⇒ ordered (gives 4) (pairs ((0, 0) ∷ (3, 0) ∷ (2, 0) ∷ (1, 0) ∷ []))
     ∷ retraces (in_layers (0 ∷ 1 ∷ 0 ∷ 0 ∷ []) four_points)
     (along whole ((0, 0) ∷ (0, 2) ∷ (0, 9) ∷ (0, 2) ∷ (0, 0) ∷ (1, 0) ∷ []))
     ((0, 0) ∷ (3, 3) ∷ (3, 2) ∷ (2, 1) ∷ (2, 0) ∷ (3, 1) ∷ [])
-    (joined 6 0 2 3)
+    (joined 6 0 2 3 (0, 9216, 10240))
     -- one layer for all contours, the highest: the order without layers
     ∷ order_in 3 (in_layers (15 ∷ 15 ∷ 15 ∷ []) three_points) ⇒ ordered (gives 3) (pairs ((0, 0) ∷ (1, 0) ∷ (2, 0) ∷ []))
     -- three layers, which decide before the distance: lowest to highest, whatever their order in the slice
     ∷ order_in 3 (in_layers (15 ∷ 7 ∷ 0 ∷ []) three_points) ⇒ ordered (gives 3) (pairs ((2, 0) ∷ (1, 0) ∷ (0, 0) ∷ []))
-    ∷ retraces (in_layers (15 ∷ 7 ∷ 0 ∷ []) three_points) (along whole ((0, 2) ∷ (1, 0) ∷ (0, 0) ∷ [])) ((0, 2) ∷ (3, 1) ∷ (3, 0) ∷ []) (joined 3 0 0 2)
+    ∷ retraces (in_layers (15 ∷ 7 ∷ 0 ∷ []) three_points) (along whole ((0, 2) ∷ (1, 0) ∷ (0, 0) ∷ [])) ((0, 2) ∷ (3, 1) ∷ (3, 0) ∷ []) (joined 3 0 0 2 (0, 0, 3313))
     -- the start is in the lowest layer, though an end of another is nearer, or farther for Outside
     ∷ start_on (in_layers (1 ∷ 0 ∷ []) (drawn whole ((0, 0) ∷ (1, 0) ∷ [] ∣ (5, 0) ∷ (3, 0) ∷ [] ∣ []) 0 0 Inside)) ⇒ starts (gives (1, reversed))
     ∷ start_on (in_layers (3 ∷ 2 ∷ []) (drawn whole ((9, 0) ∷ [] ∣ (1, 0) ∷ (2, 0) ∷ [] ∣ []) 0 0 Outside)) ⇒ starts (gives (1, reversed))
@@ -738,16 +759,16 @@ table =
     ⇒ ordered (gives 3) (pairs ((0, 0) ∷ (2, 0) ∷ (1, 0) ∷ []))
     -- a skipped contour of a lower layer keeps no other one waiting
     ∷ order_in 2 (in_layers (0 ∷ 2 ∷ 1 ∷ []) skipped_first) ⇒ ordered (gives 2) (pairs ((2, 0) ∷ (1, 1) ∷ []))
-    ∷ retraces (in_layers (0 ∷ 2 ∷ 1 ∷ []) skipped_first) (along whole ((5, 0) ∷ (1, 0) ∷ (0, 0) ∷ [])) ((0, 2) ∷ (3, 1) ∷ (1, 0) ∷ []) (joined 3 1 0 1)
+    ∷ retraces (in_layers (0 ∷ 2 ∷ 1 ∷ []) skipped_first) (along whole ((5, 0) ∷ (1, 0) ∷ (0, 0) ∷ [])) ((0, 2) ∷ (3, 1) ∷ (1, 0) ∷ []) (joined 3 1 0 1 (1024, 0, 4096))
     -- samples of a higher layer are queried after the start, and after each contour of a lower layer
     ∷ retraces (in_layers (0 ∷ 1 ∷ 0 ∷ []) (drawn whole ((0, 0) ∷ [] ∣ (9, 3) ∷ (0, 3) ∷ [] ∣ (20, 0) ∷ [] ∣ []) 0 0 Inside))
     (along whole ((0, 0) ∷ (20, 0) ∷ (0, 0) ∷ (0, 3) ∷ (9, 3) ∷ []))
     ((0, 0) ∷ (3, 3) ∷ (2, 0) ∷ (3, 2) ∷ (1, 1) ∷ [])
-    (joined 5 1 1 2)
+    (joined 5 1 1 2 (9216, 20480, 23552))
     ∷ retraces (in_layers (0 ∷ 1 ∷ 0 ∷ []) (drawn whole ((0, 0) ∷ [] ∣ (0, 3) ∷ (9, 0) ∷ [] ∣ (9, 0) ∷ [] ∣ []) 0 0 Inside))
     (along whole ((0, 0) ∷ (9, 0) ∷ (9, 0) ∷ (0, 3) ∷ []))
     ((0, 0) ∷ (3, 3) ∷ (4, 2) ∷ (1, 1) ∷ [])
-    (touching 4 1 0 1 1)
+    (touching 4 1 0 1 1 (9714, 0, 9216))
     -- 13: a wrong length of the slice comes first, place M; then the first contour with a layer above 15, a skipped one too
     ∷ start_on (in_layers (16 ∷ 0 ∷ []) three_points) ⇒ starts (refuses 13 3)
     ∷ start_on (in_layers (0 ∷ 0 ∷ 0 ∷ 0 ∷ []) three_points) ⇒ starts (refuses 13 3)
@@ -813,7 +834,7 @@ table =
     ∷ retraces (home 9 1 F)
     (along whole ((8, 1) ∷ (4, 1) ∷ (0, 1) ∷ (4, 1) ∷ (4, 0) ∷ []))
     ((0, 3) ∷ (1, 2) ∷ (1, 1) ∷ (2, 1) ∷ (3, 0) ∷ [])
-    (joined 5 2 1 1)
+    (joined 5 2 1 1 (8192, 4096, 1024))
     ∷ retrace_in 3 (home 9 1 F)
     ⇒ retraced (refuses 6 3) (along whole ((8, 1) ∷ (4, 1) ∷ (0, 1) ∷ [])) (pairs ((0, 3) ∷ (1, 2) ∷ (1, 1) ∷ []))
     ∷ []
@@ -822,7 +843,7 @@ table =
 pub plates : map (λ r. reply_to r.call) table ≡ map (λ r. r.reply) table
 unfolding
     table whole decimal binary tenths minus_tenths hundredths thousandths sixteenths sixty_fourths ◌∣◌ along points_of drawn handed in_layers point with_home home handed_with_home pairs
-    unwritten unwritten_path forward reversed touching joined ◌⇒◌ order_in straight_in retrace_in retraces numeral computed both_computed reply_to
+    unwritten unwritten_path forward reversed touching joined ◌⇒◌ order_in straight_in retrace_in retraces numeral computed both_computed measured reply_to
     A B C D E F G zero_point I skipping middled over_middle in_wide_box three_points four_points skipped_first above_plate_limit above_distance_limit
     -- floats
     neg add sub mul div rem le eq of_int to_unsigned
@@ -840,8 +861,39 @@ unfolding
     met listed listed_row listed_square listed_around cells_around query_in updated_in updated waiting ask_path keep seed update
     -- RetraceAndMarks
     coincide landing_kind land cut_up cut_down back_step step_at vertex_of walk_to walk_back forwardSteps backward return_to both_ways emit entry_of begin path_points closer waiting_layer choose waiting_number place_in
-    entered join_all retrace_from retrace_of retrace coordinates marks count_marks marks_of
+    entered join_all retrace_from retrace_of retrace coordinates marks kind_at count_marks marks_of
     -- OrderAndStraight, Calls
     last_end nearer_sense nearer_end contour_number order_after order_from order_of order entries straight
-    distance_call start_or start_call order_call straight_call counts vertices retrace_call
+    distance_call start_or start_call order_call straight_call totals path_totals vertices retrace_call
+    -- Lengths
+    in_1024ths pair_length counted_length length_along
 plates = refl
+
+pub later_plates : map (λ r. reply_to r.call) later_table ≡ map (λ r. r.reply) later_table
+unfolding
+    later_table whole decimal binary tenths minus_tenths hundredths thousandths sixteenths sixty_fourths ◌∣◌ along points_of drawn handed in_layers point with_home home handed_with_home pairs
+    unwritten unwritten_path forward reversed touching joined ◌⇒◌ order_in straight_in retrace_in retraces numeral computed both_computed measured reply_to
+    A B C D E F G zero_point I skipping middled over_middle in_wide_box three_points four_points skipped_first above_plate_limit above_distance_limit
+    -- floats
+    neg add sub mul div rem le eq of_int to_unsigned
+    -- Tools, HandedOver
+    pick sum without having least leads winner highest_layer lowest foremost lesser greater plate parked_plate at contours_from contours vertex_at layer_at order_room straight_room retrace_room
+    in_range plate_limit distance_limit first_off first_bad refused_by too_many_contours too_many_points miscounted bad_layer_count bad_layer out_of_range off_the_plate
+    work_short full parked_coordinates input_rows order_rows retrace_work retrace_rows over after
+    -- Distances, Start
+    mul_add root_by floor_root round_root sqrt distance_squared distance half centre measured_from oriented ends layer_of beats start
+    -- GridAndNearest
+    widen box_from box cell_size ceiling cells_along grid_of index_along cell_of square within on_border
+    seen_from found wins nearer scan_ring bound beyond scan_from nearest
+    -- SamplesAndCache
+    sampled_after sampled cell_number cell_at sample_at samples_from samples cache cached query_sample seeded
+    met listed listed_row listed_square listed_around cells_around query_in updated_in updated waiting ask_path keep seed update
+    -- RetraceAndMarks
+    coincide landing_kind land cut_up cut_down back_step step_at vertex_of walk_to walk_back forwardSteps backward return_to both_ways emit entry_of begin path_points closer waiting_layer choose waiting_number place_in
+    entered join_all retrace_from retrace_of retrace coordinates marks kind_at count_marks marks_of
+    -- OrderAndStraight, Calls
+    last_end nearer_sense nearer_end contour_number order_after order_from order_of order entries straight
+    distance_call start_or start_call order_call straight_call totals path_totals vertices retrace_call
+    -- Lengths
+    in_1024ths pair_length counted_length length_along
+later_plates = refl

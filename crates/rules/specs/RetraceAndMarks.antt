@@ -1,6 +1,6 @@
 -- "Retrace and marks" of document 01, with the layers and the touches of document 02. Every path point has the coordinates of a vertex, so the path is a list
 -- of steps, each a vertex and a mark; the slices are its coordinates and its marks. Definitions only.
-use Rattle.std.specs.Prelude.{ℕ, zero, suc, ◌+◌, ◌-◌, Bool, ◌&&◌, List, [], ◌∷◌, ◌++◌, map, eqb, length, get_or, Float}
+use Rattle.std.specs.Prelude.{ℕ, zero, suc, ◌+◌, ◌-◌, ◌*◌, Bool, ◌&&◌, List, [], ◌∷◌, ◌++◌, map, eqb, length, get_or, Float}
 use Rattle.std.proofs.Math.Option.{Option, none, some}
 use Rattle.std.specs.Float.Ieee.{lt, eq}
 use Rattle.rules.specs.Tools.{pick, up_from, down_to, without, foremost}
@@ -172,6 +172,13 @@ coordinates xs (v ∷ vs) = (at xs v).x ∷ (at xs v).y ∷ coordinates xs vs
 unfoldable pub marks : List Step → List ℕ
 marks [] = []
 marks (s ∷ path) = s.kind ∷ s.reference ∷ marks path
+
+-- the kind and the reference of path point k, in a slice of marks
+unfoldable pub kind_at : List ℕ → ℕ → ℕ
+kind_at ms k = get_or ms (2 * k) 0
+
+unfoldable pub reference_at : List ℕ → ℕ → ℕ
+reference_at ms k = get_or ms (2 * k + 1) 0
 
 -- how many marks of a slice pass a test of kind and reference
 unfoldable pub count_marks : (ℕ → ℕ → Bool) → List ℕ → ℕ

@@ -174,12 +174,15 @@ pub fn path_point(path: &[f64], place: PathPlace) -> Point
     point_in(path, place.0 as usize)
 }
 
-// Path points, cuts, back-steps, jumps and touches.
+// A path's totals: how many points, cuts, back-steps, jumps and touches it has, and how long its cuts, its back-steps, and its jumps and touches are, in 1,024ths.
 #[derive(Clone, Copy, Default)]
-pub struct Counts {
+pub struct Totals {
     pub points: u32,
     pub cuts: u32,
     pub back_steps: u32,
     pub jumps: u32,
     pub touches: u32,
+    pub cut_length: u64,
+    pub back_step_length: u64,
+    pub jump_length: u64,
 }

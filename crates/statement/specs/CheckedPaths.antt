@@ -10,8 +10,8 @@ use Rattle.rules.specs.Tools.{pick, sum, any, every, first_failing}
 use Rattle.rules.specs.HandedOver.{Contour, at, contours_from, contours_of, Answer, gives, refuses, in_range, plate_limit, first_off, refused_by}
 use Rattle.rules.specs.HandedOver.{too_many_contours, too_many_points, miscounted, out_of_range, off_the_plate, work_short, contour_rows}
 use Rattle.rules.specs.Bits.{same_exponent, same_float, same_point}
-use Rattle.rules.specs.RetraceAndMarks.{coincide, landing_kind, count_marks}
-use Rattle.statement.specs.PathStatement.{Among, Of, kind_at, reference_at, cuts_of}
+use Rattle.rules.specs.RetraceAndMarks.{coincide, landing_kind, count_marks, kind_at, reference_at}
+use Rattle.statement.specs.PathStatement.{Among, Of, cuts_of}
 use Rattle.statement.specs.PathCheck.{enters, is_of, entries_of, lands_fresh, goes, cuts_fresh, reverses, keeps_after, keeps_rules, complete}
 use Rattle.statement.specs.PathCheck.{miscounted_path, not_drawn, check_rows, check_call, marks_before, RulesAt, DividesByPoints, LeftOut, FirstFault}
 use Rattle.rules.specs.MarkedPlates.{whole, ◌∣◌, along, points_of, pairs}

@@ -2,7 +2,8 @@
 use Rattle.std.proofs.Common.{inl, inr, arith}
 use Rattle.std.specs.Prelude.{refl, List, [], ◌∷◌, ℕ}
 use Rattle.rules.specs.HandedOver.{Plate, plate, Contour, contours_from, contours, layer_at}
-use Rattle.statement.specs.PathStatement.{kind_at, reference_at, NeverFall}
+use Rattle.rules.specs.RetraceAndMarks.{kind_at, reference_at}
+use Rattle.statement.specs.PathStatement.{NeverFall}
 use Rattle.rules.specs.declared.StartPointStrategy.TheVariants.{Inside}
 
 -- three points and then two, of these layers; the points' places do not count here

@@ -9,10 +9,10 @@ use Rattle.rules.specs.Tools.{pick}
 use Rattle.rules.specs.HandedOver.{AllF64, Plate, at, Answer, gives, refuses, refused_by, plate_rows}
 use Rattle.rules.specs.Distances.{distance_squared}
 use Rattle.rules.specs.Box.{box}
-use Rattle.rules.specs.RetraceAndMarks.{retrace, coordinates, marks}
+use Rattle.rules.specs.RetraceAndMarks.{retrace, coordinates, marks, kind_at}
 use Rattle.rules.specs.Calls.{vertices, retrace_call}
-use Rattle.statement.specs.PathStatement.{kind_at, IsJumpOrTouch}
-use Rattle.rules.specs.declared.Counts.{Counts}
+use Rattle.statement.specs.PathStatement.{IsJumpOrTouch}
+use Rattle.rules.specs.declared.Totals.{Totals}
 
 -- x is at most y, but for one part in 1,073,741,824
 abbrev pub Slack : ℕ → ℕ → Type 0
@@ -42,7 +42,7 @@ LandingsNear path ms n =
     NearlyAtMost d f
 
 -- how many path points a call has written: all of a result's, the first C before refusal 6, which has C for its place, and none before another refusal
-unfoldable pub written_points : Answer Counts → ℕ
+unfoldable pub written_points : Answer Totals → ℕ
 written_points (gives c) = c.points
 written_points (refuses number place) = pick (eqb number 6) place 0
 

@@ -1,5 +1,7 @@
 pub mod PathStatement
 pub mod HowNear
+pub mod Quotation
+pub mod QuotedPaths
 pub mod PathCheck
 pub mod UndividedPaths
 pub mod CheckedPaths

@@ -22,12 +22,12 @@ use Rattle.rules.specs.SamplesAndCache.{met, listed, listed_row, listed_square, 
 use Rattle.rules.specs.SamplesAndCache.{waiting, ask_path, keep, seed, update}
 use Rattle.rules.specs.RetraceAndMarks.{coincide, landing_kind, land, cut_up, cut_down, back_step, step_at, vertex_of, walk_to, walk_back, forward, backward}
 use Rattle.rules.specs.RetraceAndMarks.{return_to, both_ways, emit, entry_of, begin, path_points, closer, waiting_layer, choose, waiting_number, place_in, entered, join_all}
-use Rattle.rules.specs.RetraceAndMarks.{retrace_from, retrace_of, retrace, coordinates, marks, marks_of, count_marks}
-use Rattle.rules.specs.Calls.{vertices, counts, retrace_call}
-use Rattle.statement.specs.PathStatement.{kind_at, IsJumpOrTouch}
+use Rattle.rules.specs.RetraceAndMarks.{retrace_from, retrace_of, retrace, coordinates, marks, marks_of, count_marks, kind_at}
+use Rattle.rules.specs.Calls.{vertices, totals, path_totals, retrace_call}
+use Rattle.statement.specs.PathStatement.{IsJumpOrTouch}
 use Rattle.rules.specs.MarkedPlates.{whole, decimal, tenths, ◌∣◌, along, points_of, drawn, pairs}
 use Rattle.statement.specs.HowNear.{NearlyAtMost, LandingsNear, written_points, IsAccepted, HowNearByRules, HowNear}
-use Rattle.rules.specs.declared.Counts.{Counts}
+use Rattle.rules.specs.declared.Totals.{Totals}
 use Rattle.rules.specs.declared.StartPointStrategy.TheVariants.{Inside}
 
 -- a number that is above another is not at most that one
@@ -208,8 +208,8 @@ far = (
 
 -- ---- how many path points are written
 
-pub seven_points : Answer Counts
-seven_points = gives (record { points = 7; cuts = 3; back_steps = 2; jumps = 1; touches = 0 })
+pub seven_points : Answer Totals
+seven_points = gives (record { points = 7; cuts = 3; back_steps = 2; jumps = 1; touches = 0; cut_length = 3072; back_step_length = 2048; jump_length = 1024 })
 
 -- a result; refusal 6; others, with a place and without
 pub written : map written_points (seven_points ∷ refuses 6 4 ∷ refuses 5 1 ∷ refuses 13 6 ∷ refuses 4 9 ∷ refuses 1 0 ∷ []) ≡ 7 ∷ 4 ∷ 0 ∷ 0 ∷ 0 ∷ 0 ∷ []
@@ -251,7 +251,7 @@ pub given :
     × (HowNear → LandingsNear (along tenths ((0, 0) ∷ (1, 0) ∷ (2, 0) ∷ (9, 9) ∷ [])) (pairs ((0, 0) ∷ (3, 1) ∷ (3, 2) ∷ (9, 9) ∷ [])) 3)
     × (HowNear → LandingsNear (along tenths ((0, 0) ∷ (1, 0) ∷ [])) (pairs ((0, 0) ∷ (3, 1) ∷ (9, 9) ∷ [])) 2)
 unfolding
-    HowNearByRules HowNear in_a_row retrace_call retrace_room retrace_work retrace_rows work_short full after over counts marks_of count_marks written_points
+    HowNearByRules HowNear in_a_row retrace_call retrace_room retrace_work retrace_rows work_short full after over totals path_totals marks_of count_marks written_points
     refused_by parked_coordinates input_rows too_many_contours too_many_points miscounted bad_layer_count bad_layer out_of_range off_the_plate first_off first_bad in_range plate_limit
     whole decimal tenths ◌∣◌ along points_of drawn pairs
     round fits neg add sub mul div rem lt le eq of_int to_unsigned

@@ -6,11 +6,11 @@ use Rattle.std.specs.Prelude.{◌≡◌, ◌⊎◌, Bool, not, ◌&&◌, ◌||�
 use Rattle.rules.specs.Tools.{sum, any, every, first_failing, up_from}
 use Rattle.rules.specs.HandedOver.{Plate, Contour, at, contours_of, contours, Answer, gives, refuses, RefusalRow, row, refused_by, work_short, contour_rows}
 use Rattle.rules.specs.Bits.{same_point}
-use Rattle.rules.specs.RetraceAndMarks.{start_kind, cut_kind, back_step_kind, jump_kind, touch_kind, landing_kind, count_marks, marks_of}
+use Rattle.rules.specs.RetraceAndMarks.{start_kind, cut_kind, back_step_kind, jump_kind, touch_kind, landing_kind, count_marks, marks_of, kind_at, reference_at}
 use Rattle.rules.specs.Calls.{retrace_call}
-use Rattle.statement.specs.PathStatement.{segments_of, Among, Of, OfOne, kind_at, reference_at, cuts_of, PairOf, Divides}
+use Rattle.statement.specs.PathStatement.{segments_of, Among, Of, OfOne, cuts_of, PairOf, Divides}
 use Rattle.rules.specs.declared.Point.{Point}
-use Rattle.rules.specs.declared.Counts.{Counts}
+use Rattle.rules.specs.declared.Totals.{Totals}
 
 -- ---- contours entered
 
@@ -124,7 +124,7 @@ check_call xs ns path ms w = refused_by (check_rows xs ns path ms w ++ (not_draw
 -- What divides as the path statement says, divides by points. (The converse is false: bits may agree where vertices differ, and there are no nine cells here.)
 unfoldable pub DividedByPoints : Type 0
 DividedByPoints =
-    (p : Plate) (c : Counts) (path : List Float) (ms : List ℕ) → Divides p c path ms → DividesByPoints (contours p) p.points c.points path ms
+    (p : Plate) (c : Totals) (path : List Float) (ms : List ℕ) → Divides p c path ms → DividesByPoints (contours p) p.points c.points path ms
 
 -- a call that refusals 1 to 5 let pass
 abbrev pub Checkable : List Float → List ℕ → List Float → List ℕ → ℕ → Type 0
@@ -159,7 +159,7 @@ CheckPlaces =
 -- every path that the retrace call finishes is accepted, with P + M u32 of work or more
 unfoldable pub RetraceAccepted : Type 0
 RetraceAccepted =
-    (p : Plate) (path : List Float) (ms : List ℕ) (w d : ℕ) (c : Counts) →
+    (p : Plate) (path : List Float) (ms : List ℕ) (w d : ℕ) (c : Totals) →
     let o = retrace_call p path ms w d in
     o.answer ≡ gives c →
     (work : ℕ) →

@@ -6,10 +6,10 @@ use Rattle.rules.specs.Tools.{sum, pick}
 use Rattle.rules.specs.HandedOver.{Plate, Contour, at, contours, layer_at, gives}
 use Rattle.rules.specs.Distances.{distance_squared}
 use Rattle.rules.specs.GridAndNearest.{grid_of, cell_of, square, within}
-use Rattle.rules.specs.RetraceAndMarks.{start_kind, cut_kind, back_step_kind, jump_kind, touch_kind, coincide, retrace, coordinates, marks, count_marks, marks_of}
-use Rattle.rules.specs.Calls.{counts, vertices, retrace_call}
+use Rattle.rules.specs.RetraceAndMarks.{start_kind, cut_kind, back_step_kind, jump_kind, touch_kind, coincide, retrace, coordinates, marks, count_marks, marks_of, kind_at, reference_at}
+use Rattle.rules.specs.Calls.{path_totals, vertices, retrace_call}
 use Rattle.rules.specs.declared.Point.{Point}
-use Rattle.rules.specs.declared.Counts.{Counts}
+use Rattle.rules.specs.declared.Totals.{Totals}
 use Rattle.rules.specs.declared.SpatialGrid.{SpatialGrid}
 
 -- n, and S: each contour has one segment less than it has points
@@ -45,13 +45,6 @@ abbrev pub NotOf : Contour → ℕ → Type 0
 NotOf c v = (v < c.first) ⊎ (c.first + c.last < v)
 
 -- ---- reading a marks slice
-
--- the kind and the reference of path point k
-unfoldable pub kind_at : List ℕ → ℕ → ℕ
-kind_at ms k = get_or ms (2 * k) 0
-
-unfoldable pub reference_at : List ℕ → ℕ → ℕ
-reference_at ms k = get_or ms (2 * k + 1) 0
 
 -- The vertex of the next path point, after those with the vertices vs, by its mark: a start's, jump's or touch's is the one named, a cut's the end of its segment
 -- that the point before doesn't have, a back-step's that of path point r.
@@ -129,7 +122,7 @@ Pair p v k kind r =
 
 -- ---- the whole path: its counts, its coordinates and its marks
 
-pub record Divides (p : Plate) (c : Counts) (path : List Float) (ms : List ℕ) : Type 0 where
+pub record Divides (p : Plate) (c : Totals) (path : List Float) (ms : List ℕ) : Type 0 where
   pub whole : (length path ≡ 2 * c.points) × (length ms ≡ 2 * c.points)
   -- each path point has its vertex's coordinates
   pub coordinates : (k : ℕ) → k < c.points → at path k ≡ at p.points (vertex_in ms k)
@@ -162,28 +155,28 @@ NeverFall p n ms = (i j : ℕ) → i < j → j < n → (c d : Contour) → Draws
 -- What the retrace call finishes, with one contour or more: path and marks are those of the documents' rules, and they divide as said.
 unfoldable pub PathStatement : Type 0
 PathStatement =
-    (p : Plate) (path : List Float) (ms : List ℕ) (w d : ℕ) (c : Counts) →
+    (p : Plate) (path : List Float) (ms : List ℕ) (w d : ℕ) (c : Totals) →
     let o = retrace_call p path ms w d in
     let r = retrace p in
     o.answer ≡ gives c →
     1 ≤ contour_count p →
-    (c ≡ counts r)
+    (c ≡ path_totals p r)
     × (o.path ≡ coordinates p.points (vertices r) ++ drop (2 * c.points) path)
     × (o.marks ≡ marks r ++ drop (2 * c.points) ms)
     × Divides p c (take (2 * c.points) o.path) (take (2 * c.points) o.marks)
 
--- with no contour all counts are 0
+-- with no contour all is 0
 unfoldable pub BlankStatement : Type 0
 BlankStatement =
-    (p : Plate) (path : List Float) (ms : List ℕ) (w d : ℕ) (c : Counts) →
+    (p : Plate) (path : List Float) (ms : List ℕ) (w d : ℕ) (c : Totals) →
     (retrace_call p path ms w d).answer ≡ gives c →
     contour_count p ≡ 0 →
-    c ≡ record { points = 0; cuts = 0; back_steps = 0; jumps = 0; touches = 0 }
+    c ≡ record { points = 0; cuts = 0; back_steps = 0; jumps = 0; touches = 0; cut_length = 0; back_step_length = 0; jump_length = 0 }
 
 -- along every path that it finishes the layers never fall
 unfoldable pub LayerStatement : Type 0
 LayerStatement =
-    (p : Plate) (path : List Float) (ms : List ℕ) (w d : ℕ) (c : Counts) →
+    (p : Plate) (path : List Float) (ms : List ℕ) (w d : ℕ) (c : Totals) →
     let o = retrace_call p path ms w d in
     o.answer ≡ gives c →
     NeverFall p c.points (take (2 * c.points) o.marks)

@@ -12,11 +12,11 @@ use Rattle.rules.specs.HandedOver.{Plate, plate, Contour, at, contours_from, con
 use Rattle.rules.specs.Distances.{mul_add, distance_squared}
 use Rattle.rules.specs.Box.{widen, box_from, box}
 use Rattle.rules.specs.GridAndNearest.{cell_size, ceiling, cells_along, grid_of, index_along, cell_of, square, within}
-use Rattle.rules.specs.RetraceAndMarks.{cut_kind, back_step_kind, jump_kind, coincide, count_marks, marks_of}
-use Rattle.statement.specs.PathStatement.{contour_count, segment_count, OfContour, kind_at, reference_at, named, vertices_after, vertex_in, cuts_of}
+use Rattle.rules.specs.RetraceAndMarks.{cut_kind, back_step_kind, jump_kind, coincide, count_marks, marks_of, kind_at, reference_at}
+use Rattle.statement.specs.PathStatement.{contour_count, segment_count, OfContour, named, vertices_after, vertex_in, cuts_of}
 use Rattle.statement.specs.PathStatement.{itself, Cut, BackStep, Landing, JumpOrTouch, NotEntered, Pair, Divides}
 use Rattle.rules.specs.declared.Point.{Point}
-use Rattle.rules.specs.declared.Counts.{Counts}
+use Rattle.rules.specs.declared.Totals.{Totals}
 use Rattle.rules.specs.declared.StartPointStrategy.TheVariants.{Inside}
 
 -- ---- rows
@@ -24,7 +24,7 @@ use Rattle.rules.specs.declared.StartPointStrategy.TheVariants.{Inside}
 -- what a call might have written: its counts, its path slice and its marks slice
 pub record Outcome : Type 0 where
   pub plate : Plate
-  pub counts : Counts
+  pub counts : Totals
   pub path : List Float
   pub marks : List ℕ
 
@@ -38,15 +38,15 @@ pairs : List (ℕ × ℕ) → List ℕ
 pairs [] = []
 pairs (p ∷ ps) = p.0 ∷ p.1 ∷ pairs ps
 
--- path points, cuts, back-steps, jumps, touches
-counted_all : ℕ → ℕ → ℕ → ℕ → ℕ → Counts
-counted_all n s b j t = record { points = n; cuts = s; back_steps = b; jumps = j; touches = t }
+-- path points, cuts, back-steps, jumps, touches; the path statement says nothing of lengths
+counted_all : ℕ → ℕ → ℕ → ℕ → ℕ → Totals
+counted_all n s b j t = record { points = n; cuts = s; back_steps = b; jumps = j; touches = t; cut_length = 0; back_step_length = 0; jump_length = 0 }
 
 -- no touches
-counted : ℕ → ℕ → ℕ → ℕ → Counts
+counted : ℕ → ℕ → ℕ → ℕ → Totals
 counted n s b j = counted_all n s b j 0
 
-outcome : Plate → Counts → List (ℕ × ℕ) → List (ℕ × ℕ) → Outcome
+outcome : Plate → Totals → List (ℕ × ℕ) → List (ℕ × ℕ) → Outcome
 outcome p c path ms = record { plate = p; counts = c; path = points path; marks = pairs ms }
 
 -- (0,0)(25,0)(50,0) | (0,1): plate E, but with cells of size 1. Vertices 0 to 2 are the first contour's, and vertex 3 is the second's; S is 2, n is 2.

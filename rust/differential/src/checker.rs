@@ -8,11 +8,14 @@
 //! differ as numbers, those of a touch are equal: 0 and -0 are equal. Along the path the
 //! layers of the contours that are entered and of those whose segments are cut never fall. All
 //! other coordinates are compared by their bits.
+//!
+//! Lengths are added up pair by pair along the path, and those of the cuts segment by segment of
+//! the plate too.
 
 use std::collections::HashMap;
 use std::fmt;
 
-/// What a path with marks is said to draw, and the counts that came with it.
+/// What a path with marks is said to draw, and the counts and lengths that came with it.
 #[derive(Debug, Clone, Copy)]
 pub struct Claim<'a> {
     pub points: &'a [f64],
@@ -21,15 +24,24 @@ pub struct Claim<'a> {
     pub path: &'a [[f64; 2]],
     pub marks: &'a [[u32; 2]],
     pub counts: Counts,
+    pub sums: Lengths,
 }
 
 #[derive(Debug, Clone, Copy, PartialEq, Eq)]
 pub struct Counts {
-    pub points: u32,
-    pub cuts: u32,
-    pub back_steps: u32,
-    pub jumps: u32,
-    pub touches: u32,
+    pub points: u64,
+    pub cuts: u64,
+    pub back_steps: u64,
+    pub jumps: u64,
+    pub touches: u64,
+}
+
+/// In 1,024ths.
+#[derive(Debug, Clone, Copy, PartialEq, Eq, Default)]
+pub struct Lengths {
+    pub cuts: u64,
+    pub back_steps: u64,
+    pub jumps: u64,
 }
 
 /// A rule that a path can break. S is the number of segments of all contours, B that of marks
@@ -62,6 +74,9 @@ pub enum Rule {
     JumpsAreCounted,
     TouchesAreCounted,
     PointsAreTheSum,
+    CutsAreSoLong,
+    BackStepsAreSoLong,
+    JumpsAreSoLong,
 }
 
 impl Rule {
@@ -99,6 +114,11 @@ impl Rule {
             Self::JumpsAreCounted => "the jumps are counted",
             Self::TouchesAreCounted => "the touches are counted",
             Self::PointsAreTheSum => "there are S + B + n path points",
+            Self::CutsAreSoLong => {
+                "the cuts' length is theirs along the path, and that of the plate's segments"
+            }
+            Self::BackStepsAreSoLong => "the back-steps' length is theirs along the path",
+            Self::JumpsAreSoLong => "the jumps' length is theirs and the touches' along the path",
         }
     }
 }
@@ -121,24 +141,54 @@ pub fn check(claim: &Claim) -> Result<(), Broken> {
     let Claim { path, marks, counts, .. } = *claim;
     let end = path.len();
     let at_end = |holds: bool, rule| if holds { Ok(()) } else { Err(Broken { rule, place: end }) };
-    at_end(end == marks.len() && end == counts.points as usize, Rule::Whole)?;
+    at_end(end == marks.len() && end as u64 == counts.points, Rule::Whole)?;
 
     let mut walk = Walk::new(claim);
     for place in 0..end {
         walk.step(place).map_err(|rule| Broken { rule, place })?;
     }
 
-    let contours = claim.lengths.iter().filter(|&&length| length > 0).count();
-    let segments = claim.points.len() / 2 - contours;
-    let marked = |kind| marks.iter().filter(|mark| mark[0] == kind).count();
+    let contours = claim.lengths.iter().filter(|&&length| length > 0).count() as u64;
+    let segments = claim.points.len() as u64 / 2 - contours;
+    let marked = |kind| marks.iter().filter(|mark| mark[0] == kind).count() as u64;
     // No segment is cut twice and no contour entered twice, so that of as many none is left.
-    at_end(marked(1) == segments && counts.cuts as usize == segments, Rule::CutsAreS)?;
-    at_end(counts.back_steps as usize == marked(2), Rule::BackStepsAreB)?;
+    at_end(marked(1) == segments && counts.cuts == segments, Rule::CutsAreS)?;
+    at_end(counts.back_steps == marked(2), Rule::BackStepsAreB)?;
     let entries = contours.saturating_sub(1);
     at_end(marked(3) + marked(4) == entries, Rule::EntriesAreOneLess)?;
-    at_end(counts.jumps as usize == marked(3), Rule::JumpsAreCounted)?;
-    at_end(counts.touches as usize == marked(4), Rule::TouchesAreCounted)?;
-    at_end(end == segments + marked(2) + contours, Rule::PointsAreTheSum)
+    at_end(counts.jumps == marked(3), Rule::JumpsAreCounted)?;
+    at_end(counts.touches == marked(4), Rule::TouchesAreCounted)?;
+    at_end(end as u64 == segments + marked(2) + contours, Rule::PointsAreTheSum)?;
+
+    let Lengths { cuts, back_steps, jumps } = claim.sums;
+    let along = |kinds: &[u32]| length_along(path, marks, kinds);
+    let plate = plate_length(claim.points, claim.lengths);
+    at_end(cuts == along(&[1]) && cuts == plate, Rule::CutsAreSoLong)?;
+    at_end(back_steps == along(&[2]), Rule::BackStepsAreSoLong)?;
+    at_end(jumps == along(&[3, 4]), Rule::JumpsAreSoLong)
+}
+
+/// The plain distance times 1,024, rounded down.
+fn length(a: [f64; 2], b: [f64; 2]) -> u64 {
+    (squared(a, b).sqrt() * 1_024.0).floor() as u64
+}
+
+/// Of the pairs of neighbouring path points whose second has a mark of these kinds.
+fn length_along(path: &[[f64; 2]], marks: &[[u32; 2]], kinds: &[u32]) -> u64 {
+    let pairs = path.windows(2).zip(marks.iter().skip(1));
+    let counted = pairs.filter(|(_, [kind, _])| kinds.contains(kind));
+    counted.map(|(ends, _)| length(ends[0], ends[1])).sum()
+}
+
+/// Of the segments, contour by contour.
+fn plate_length(points: &[f64], lengths: &[u32]) -> u64 {
+    let (mut vertices, _) = points.as_chunks();
+    let contours = lengths.iter().map(|&count| {
+        let (contour, rest) = vertices.split_at(count as usize);
+        vertices = rest;
+        contour.windows(2).map(|ends| length(ends[0], ends[1])).sum::<u64>()
+    });
+    contours.sum()
 }
 
 /// The path points that were looked at.
@@ -319,7 +369,7 @@ impl Near {
 
 #[cfg(test)]
 mod tests {
-    use super::{Broken, Claim, Counts, Rule, check};
+    use super::{Broken, Claim, Counts, Lengths, Rule, check, length};
 
     /// A plate and its path, to be damaged.
     #[derive(Debug, Clone)]
@@ -330,6 +380,7 @@ mod tests {
         path: Vec<[f64; 2]>,
         marks: Vec<[u32; 2]>,
         counts: Counts,
+        sums: Lengths,
     }
 
     impl Drawn {
@@ -341,6 +392,7 @@ mod tests {
                 path: &self.path,
                 marks: &self.marks,
                 counts: self.counts,
+                sums: self.sums,
             })
         }
 
@@ -354,8 +406,14 @@ mod tests {
     }
 
     /// Without touches.
-    fn counts(points: u32, cuts: u32, back_steps: u32, jumps: u32) -> Counts {
+    fn counts(points: u64, cuts: u64, back_steps: u64, jumps: u64) -> Counts {
         Counts { points, cuts, back_steps, jumps, touches: 0 }
+    }
+
+    /// Of lengths in units.
+    fn sums(cuts: u64, back_steps: u64, jumps: u64) -> Lengths {
+        let [cuts, back_steps, jumps] = [cuts, back_steps, jumps].map(|length| 1_024 * length);
+        Lengths { cuts, back_steps, jumps }
     }
 
     /// Plate E.
@@ -368,6 +426,7 @@ mod tests {
             path: vec![a, b, c, b, a, d],
             marks: vec![[0, 0], [1, 0], [1, 1], [2, 1], [2, 0], [3, 3]],
             counts: counts(6, 2, 2, 1),
+            sums: sums(8, 8, 1),
         }
     }
 
@@ -381,6 +440,7 @@ mod tests {
             path: vec![a, c, d, c, b],
             marks: vec![[0, 0], [3, 2], [1, 2], [2, 1], [1, 1]],
             counts: counts(5, 2, 1, 1),
+            sums: sums(8, 4, 1),
         }
     }
 
@@ -394,12 +454,13 @@ mod tests {
             path: vec![a, b, c, b, a, landing, e],
             marks: vec![[0, 0], [1, 0], [1, 1], [2, 1], [2, 0], [4, 3], [1, 3]],
             counts: Counts { touches: 1, ..counts(7, 3, 2, 0) },
+            sums: sums(12, 8, 0),
         }
     }
 
     /// Two single points, the second entered by a mark of this kind.
     fn two(points: [[f64; 2]; 2], kind: u32) -> Drawn {
-        let entries = |of| u32::from(kind == of);
+        let entries = |of| u64::from(kind == of);
         Drawn {
             points: points.concat(),
             lengths: vec![1, 1],
@@ -407,6 +468,7 @@ mod tests {
             path: points.to_vec(),
             marks: vec![[0, 0], [kind, 1]],
             counts: Counts { touches: entries(4), ..counts(2, 0, 0, entries(3)) },
+            sums: Lengths { jumps: length(points[0], points[1]), ..Lengths::default() },
         }
     }
 
@@ -422,6 +484,7 @@ mod tests {
             path: vec![a, b, a, c],
             marks: vec![[0, 0], [3, 1], [2, 0], [3, 2]],
             counts: counts(4, 0, 1, 2),
+            sums: sums(0, 1, 2),
         };
         assert_eq!(g.check(), Ok(()));
         let a = Drawn {
@@ -431,6 +494,7 @@ mod tests {
             path: vec![],
             marks: vec![],
             counts: counts(0, 0, 0, 0),
+            sums: sums(0, 0, 0),
         };
         assert_eq!(a.check(), Ok(()));
         let nothing = [
@@ -529,6 +593,7 @@ mod tests {
             path: vec![a, b, b, b, a, d],
             marks: vec![[0, 0], [1, 0], [1, 1], [2, 1], [2, 0], [3, 3]],
             counts: counts(6, 2, 2, 1),
+            sums: sums(4, 4, 1),
         };
         assert_eq!(drawn.check(), Ok(()));
         assert_eq!(drawn.damaged(|p| p.marks[2] = [4, 2]), (Rule::EntryIsAnew, 2));
@@ -547,6 +612,71 @@ mod tests {
         assert_eq!(drawn.damaged(counted(0, 2)), (Rule::TouchesAreCounted, 7));
         assert_eq!(e().damaged(counted(0, 1)), (Rule::JumpsAreCounted, 6));
         assert_eq!(e().damaged(counted(1, 1)), (Rule::TouchesAreCounted, 6));
+    }
+
+    #[test]
+    fn lengths_are_of_whole_1024ths_by_pair() {
+        let pair = |x: f64, y| length([0.0, -0.0], [x, y]);
+        assert_eq!([pair(3.0, 4.0), pair(-0.1, 0.0), pair(0.0, -0.0)], [5_120, 102, 0]);
+        assert_eq!([pair(1.0, 1.0), pair(1e-4, 5e-324), pair(2.0, 2.0)], [1_448, 0, 2_896]);
+        let part = 1.0_f64 / 1_024.0;
+        assert_eq!([part, part.next_down(), part.next_up()].map(|x| pair(0.0, x)), [1, 0, 1]);
+    }
+
+    #[test]
+    fn a_wrong_sum_of_lengths_is_found() {
+        // (0,0)(0,.1)(0,.3) | (0,0)(0,.1) | (9,9): each segment and step back is rounded down.
+        let [a, b, c, d] = [[0.0, 0.0], [0.0, 0.1], [0.0, 0.3], [9.0, 9.0]];
+        let tenths = Drawn {
+            points: [a, b, c, a, b, d].concat(),
+            lengths: vec![3, 0, 2, 1],
+            layers: vec![0; 4],
+            path: vec![a, b, c, b, b, a, d],
+            marks: vec![[0, 0], [1, 0], [1, 1], [2, 1], [4, 4], [1, 3], [3, 5]],
+            counts: Counts { touches: 1, ..counts(7, 3, 1, 1) },
+            sums: Lengths { cuts: 102 + 204 + 102, back_steps: 204, jumps: 13_033 },
+        };
+        for drawn in [tenths.clone(), e(), f(), touching([-0.0, 0.0]), two(DIFFERENT[5], 3)] {
+            assert_eq!(drawn.check(), Ok(()));
+            let end = drawn.path.len();
+            for off in [1, u64::MAX, 1 << 32, 1_024] {
+                let wrong = |sum: fn(&mut Lengths) -> &mut u64| {
+                    drawn.damaged(|d| *sum(&mut d.sums) = sum(&mut d.sums).wrapping_add(off))
+                };
+                assert_eq!(wrong(|sums| &mut sums.cuts), (Rule::CutsAreSoLong, end));
+                assert_eq!(wrong(|sums| &mut sums.back_steps), (Rule::BackStepsAreSoLong, end));
+                assert_eq!(wrong(|sums| &mut sums.jumps), (Rule::JumpsAreSoLong, end));
+            }
+        }
+        let sums = |cuts, back_steps, jumps| Lengths { cuts, back_steps, jumps };
+        let wrong = [
+            // the sum rounded down, or each to the nearest: .1, .2 and .1 are 102.4, 204.8 and 102.4
+            (sums(409, 204, 13_033), Rule::CutsAreSoLong),
+            // each rounded up
+            (sums(103 + 205 + 103, 204, 13_033), Rule::CutsAreSoLong),
+            (sums(408, 205, 13_033), Rule::BackStepsAreSoLong),
+            (sums(408, 204, 13_034), Rule::JumpsAreSoLong),
+            // one sum among another's
+            (sums(408 + 204, 0, 13_033), Rule::CutsAreSoLong),
+            (sums(408, 0, 204 + 13_033), Rule::BackStepsAreSoLong),
+            (sums(408, 204, 0), Rule::JumpsAreSoLong),
+        ];
+        for (sums, rule) in wrong {
+            assert_eq!(tenths.damaged(|d| d.sums = sums), (rule, 7), "{sums:?}");
+        }
+        // What no contour holds has no length.
+        let blank = Drawn {
+            points: vec![],
+            lengths: vec![0],
+            layers: vec![0],
+            path: vec![],
+            marks: vec![],
+            counts: counts(0, 0, 0, 0),
+            sums: Lengths::default(),
+        };
+        assert_eq!(blank.check(), Ok(()));
+        assert_eq!(blank.damaged(|b| b.sums.cuts = 1), (Rule::CutsAreSoLong, 0));
+        assert_eq!(blank.damaged(|b| b.sums.jumps = 1), (Rule::JumpsAreSoLong, 0));
     }
 
     #[test]
@@ -601,6 +731,8 @@ mod tests {
         straight.path.drain(3..5);
         straight.marks.drain(3..5);
         straight.counts = counts(4, 2, 0, 1);
+        // The root of 65 is 8.0622..
+        straight.sums = Lengths { jumps: 8_255, ..sums(8, 0, 0) };
         // The cells are 0.16 wide, and (0,0) lies six of them away from the landing.
         assert_eq!(straight.check(), Ok(()));
         // With one more contour, at (0,100), they are 2 wide: (0,0) lies in one of the nine.
@@ -642,6 +774,7 @@ mod tests {
             path: vec![a, b, d, b, c],
             marks: vec![[0, 0], [1, 0], [3, 3], [2, 1], [1, 1]],
             counts: counts(5, 2, 1, 1),
+            sums: sums(8, 1, 1),
         };
         assert_eq!(between.check(), Ok(()));
         assert_eq!(between.damaged(|p| p.layers[1] = 8), (Rule::CutDoesNotFall, 4));

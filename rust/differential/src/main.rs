@@ -17,6 +17,7 @@ mod joining;
 mod large_files;
 mod layers;
 mod leaves;
+mod lengths;
 mod lent;
 mod meeting;
 mod mujou;
@@ -28,6 +29,7 @@ mod passed_over;
 mod paths;
 mod plate_file;
 mod plates;
+mod quoted;
 mod record;
 mod reference;
 mod remainders;
@@ -47,6 +49,7 @@ use run::Plan;
 
 const USAGE: &str = "\
 usage: differential distances --pairs N --seed S [--threads T]
+       differential lengths --pairs N --seed S [--threads T]
        differential leaves --pairs N --seed S [--threads T]
        differential centers --pairs N --seed S [--threads T]
        differential grids --plates N --seed S [--threads T]
@@ -82,6 +85,7 @@ fn command(words: &[String]) -> Result<bool, String> {
     let (name, rest) = words.split_first().ok_or("no command")?;
     match name.as_str() {
         "distances" => Ok(distances::run(plan(rest, "--pairs")?)),
+        "lengths" => Ok(lengths::run(plan(rest, "--pairs")?)),
         "leaves" => Ok(leaves::run(plan(rest, "--pairs")?)),
         "centers" => Ok(centers::run(plan(rest, "--pairs")?)),
         "grids" => Ok(grids::run(plan(rest, "--plates")?)),

@@ -48,6 +48,12 @@ pub struct Layered;
 /// Those of the copy with layers whose centre is handed in.
 pub struct Parked;
 
+/// The reference's plain distance.
+pub fn distance([ax, ay]: [f64; 2], [bx, by]: [f64; 2]) -> f64 {
+    let [a, b] = [(ax, ay), (bx, by)].map(|(x, y)| mujou_reference::types::Point::new(x, y));
+    a.distance(b)
+}
+
 /// What the centre is half of. There is no other point that distances are taken from.
 fn sides(strategy: StartPointStrategy, size: Size) -> [u32; 2] {
     assert!(!matches!(strategy, Home(_)), "the centre is not handed in");

@@ -3,13 +3,14 @@
 //! points.
 //!
 //! Every call is lent slices between margins of random bits. All bits are compared afterwards: the
-//! inputs stay, and so does the work slice after every refusal but 12.
+//! inputs stay, and so does the work slice after every refusal but 12. The cuts of every path that
+//! is accepted are together as long as the plate's contours.
 
 use std::sync::atomic::{AtomicUsize, Ordering};
 
 use harness::random::Random;
 use twillharbor::StartPointStrategy::{Inside, Outside};
-use twillharbor::{Refusal, c};
+use twillharbor::{MarkedPath, Refusal, c};
 
 use crate::drawn::{Broken, Due, Handed, RULES};
 use crate::lent::Lent;
@@ -263,7 +264,7 @@ fn retraced(plate: &Plate, random: &mut Random) -> Result<Option<Handed>, String
     let (mut path, mut marks) = (vec![0.0; 2 * ROOM], vec![0; 2 * ROOM]);
     let mut work = vec![0; twillharbor::retrace_work(ROOM, points.len() / 2, lengths.len())];
     let mut distances = vec![0.0; lengths.len()];
-    let counts = twillharbor::retrace_into(
+    let outcome = twillharbor::retrace_into(
         points,
         lengths,
         plate.size,
@@ -273,10 +274,10 @@ fn retraced(plate: &Plate, random: &mut Random) -> Result<Option<Handed>, String
         &mut work,
         &mut distances,
     );
-    match counts {
-        Ok(counts) => {
-            path.truncate(2 * counts.points);
-            marks.truncate(2 * counts.points);
+    match outcome {
+        Ok(totals) => {
+            path.truncate(2 * totals.counts.points);
+            marks.truncate(2 * totals.counts.points);
             Ok(Some(Handed { points: points.clone(), lengths: lengths.clone(), path, marks }))
         }
         Err(Refusal::Full { .. }) => Ok(None),
@@ -376,10 +377,23 @@ fn wrapped(handed: &Handed) -> Result<(), String> {
         Err(refusal) => (refusal.number(), refusal.place()),
     };
     let due = handed.due(usize::MAX);
-    if is == due.numbers() {
+    if is != due.numbers() {
+        return Err(described(handed, &format!("safe interface: {is:?}, due {due:?}")));
+    }
+    if due == Due::Accepted { as_long(handed) } else { Ok(()) }
+}
+
+/// Whether the cuts are together as long as the contours.
+fn as_long(handed: &Handed) -> Result<(), String> {
+    let Handed { points, lengths, path, marks } = handed;
+    let path = MarkedPath::of(path, marks).and_then(|path| path.lengths());
+    let along = path.map(|lengths| lengths.cuts);
+    let contours = twillharbor::Plate::new(points, lengths).contour_lengths();
+    let by_contour = contours.map(|lengths| lengths.iter().sum());
+    if along == by_contour.ok() && along.is_some() {
         return Ok(());
     }
-    Err(described(handed, &format!("safe interface: {is:?}, due {due:?}")))
+    Err(described(handed, &format!("cuts of {along:?} 1,024ths, contours of {by_contour:?}")))
 }
 
 /// The text, with plate and path, the whole of them where that is a few lines.

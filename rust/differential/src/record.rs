@@ -30,6 +30,7 @@
 pub mod files;
 mod home;
 mod in_layers;
+mod measured;
 pub mod paths;
 pub mod retrace;
 mod touching;

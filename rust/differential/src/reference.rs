@@ -6,7 +6,7 @@
 
 use twillharbor::StartPointStrategy::{self, Home, Inside, Outside};
 
-use crate::mujou::{Layered, Mujou, Parked, Plain};
+use crate::mujou::{Layered, Mujou, Parked, Plain, distance};
 use crate::plates::Plate;
 use crate::rule::{self, Held, Refused, Retrace};
 
@@ -90,7 +90,8 @@ fn joined<M: Mujou>(plate: &Plate, strategy: StartPointStrategy) -> Result<Joine
 /// says can be exponentially long: then the copy of the reference that stops gives its beginning.
 ///
 /// The reference has no marks. They are those of the documents as transcribed in `rule`, and it
-/// is an error where its path differs from the reference's.
+/// is an error where its path differs from the reference's, or a pair's length from the reference's
+/// distance, times 1,024 and rounded down.
 pub fn retrace(
     plate: &Plate,
     strategy: StartPointStrategy,
@@ -119,7 +120,27 @@ pub fn retrace(
             apart
         ));
     }
-    Ok(Ok(Retrace { path, marks: steps.iter().map(|step| step.mark).collect(), whole, held }))
+    let marks: Vec<[u32; 2]> = steps.iter().map(|step| step.mark).collect();
+    let lengths = lengths(&path, &marks)?;
+    Ok(Ok(Retrace { path, marks, whole, lengths, held }))
+}
+
+/// The lengths of the cuts, of the back-steps, and of the jumps and touches.
+fn lengths(path: &[[f64; 2]], marks: &[[u32; 2]]) -> Result<[u64; 3], String> {
+    let mut lengths = [0; 3];
+    for (ends, [kind, _]) in path.windows(2).zip(marks.iter().skip(1)) {
+        let length = rule::lengths::pair(ends[0], ends[1]);
+        let theirs = (distance(ends[0], ends[1]) * 1_024.0).floor() as u64;
+        if length != theirs {
+            return Err(format!(
+                "from {:?} to {:?} the length is {length} by whole numbers, {theirs} by the \
+                 reference's distance",
+                ends[0], ends[1]
+            ));
+        }
+        lengths[rule::lengths::sum_of(*kind)] += length;
+    }
+    Ok(lengths)
 }
 
 /// What the copy with layers gives, and with one layer the reference too.

@@ -1,5 +1,6 @@
 //! Plates for the retrace call: those of `plates`, others that lie at the edges of what its grid,
-//! its search and its samples decide, those of `passed_over` among them, and those of `meeting`.
+//! its search and its samples decide, those of `passed_over` among them, those of `quoted`, and
+//! those of `meeting`.
 
 use harness::plates::{falling_layers, in_rows, rows as rows_of, touching_rows};
 use harness::random::Random;
@@ -11,6 +12,7 @@ use crate::passed_over;
 use crate::plates::{
     self, LIMIT, MOST_CONTOURS, MOST_POINTS, Plate, all_contours, all_points, of_lengths, up_to,
 };
+use crate::quoted;
 use crate::rule::retrace::Grid;
 
 /// How the points of a plate lie.
@@ -23,16 +25,18 @@ pub enum Kind {
     CellSteps,
     Scattered,
     Rows,
+    Lengths,
     Meeting(Meeting),
 }
 
-const MORE: [(Kind, &str); 6] = [
+const MORE: [(Kind, &str); 7] = [
     (Kind::GridEdges, "points at the edges of their grid's cells"),
     (Kind::RingBounds, "points as far apart as a ring's bound"),
     (Kind::PassedOver, "points in the ring that is left, nearer than the one that is found"),
     (Kind::CellSteps, "contours that step by parts of a cell"),
     (Kind::Scattered, "scattered single points"),
     (Kind::Rows, "rows of up to 65,536 points"),
+    (Kind::Lengths, "points that are whole numbers of 1,024ths apart, or nearly"),
 ];
 
 /// Where the plates of `meeting` begin among all kinds.
@@ -73,6 +77,7 @@ pub fn plate(kind: Kind, random: &mut Random) -> Plate {
         Kind::CellSteps => framed(steps, random),
         Kind::Scattered => scattered(random),
         Kind::Rows => rows(random),
+        Kind::Lengths => quoted::plate(random),
         Kind::Meeting(meeting) => meeting::plate(meeting, random),
     };
     assert!(plate.lengths.len() <= MOST_CONTOURS);

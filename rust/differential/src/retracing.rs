@@ -5,7 +5,9 @@
 //! afterwards: of the answer, of inputs and outputs, and of both work slices after every
 //! refusal but 6. The marks are compared with those of the documents as transcribed in `rule`,
 //! the checker looks at every result, the check call accepts it, and how near its landings are is
-//! checked of every path that is written, whole or cut off.
+//! checked of every path that is written, whole or cut off. Lengths are the reference's distances,
+//! and those of whole numbers, pair by pair along the path; the checker's are contour by contour
+//! too.
 
 use std::sync::atomic::{AtomicU64, Ordering};
 
@@ -13,7 +15,7 @@ use harness::random::Random;
 use twillharbor::StartPointStrategy::{self, Home, Inside, Outside};
 use twillharbor::{MarkedPath, PairKind, Point, Size, c};
 
-use crate::checker::{self, Claim, Counts};
+use crate::checker::{self, Claim, Counts, Lengths};
 use crate::handed::{Handed, numbers};
 use crate::layers::{Met, in_seeded_layers};
 use crate::lent::Lent;
@@ -21,9 +23,10 @@ use crate::meeting::Meeting;
 use crate::near::HowNear;
 use crate::parked;
 use crate::plates::{Plate, damaged_somehow};
+use crate::quoted::Quoted;
 use crate::reference::retrace;
 use crate::retrace_plates::{KINDS, Kind, LARGE, Large, large_plate, plate};
-use crate::rule::{self, NUMBERS, Retrace};
+use crate::rule::{self, Answer, NUMBERS, Retrace};
 use crate::run::{self, Plan};
 use crate::touches::Seen;
 
@@ -45,17 +48,18 @@ struct Tally {
     parked: parked::Met,
     seen: Seen,
     near: HowNear,
+    quoted: Quoted,
 }
 
 /// The call does not give the last of the numbers, 7.
 const CALL_NUMBERS: usize = NUMBERS.len() - 1;
 
 impl Tally {
-    fn count(&self, due: &[u32; 7]) {
-        let [number, _, counts @ ..] = due;
-        self.calls[rule::place_of(*number)].fetch_add(1, Ordering::Relaxed);
+    fn count(&self, due: &Answer) {
+        let [number, _, counts @ .., _, _, _] = due;
+        self.calls[rule::place_of(*number as u32)].fetch_add(1, Ordering::Relaxed);
         for (sum, &count) in self.counts.iter().zip(counts) {
-            sum.fetch_add(count.into(), Ordering::Relaxed);
+            sum.fetch_add(count, Ordering::Relaxed);
         }
     }
 
@@ -109,8 +113,9 @@ pub fn run(plan: Plan) -> bool {
         tally.parked.print(of_kinds),
         tally.seen.print(of_kinds),
         tally.near.print(of_kinds),
+        tally.quoted.print(of_kinds),
     ];
-    met == [true; 4] && same
+    met == [true; 5] && same
 }
 
 /// Compares one plate of a run: the kind by its number, and the plate's own seed.
@@ -338,6 +343,7 @@ fn handed<'a>(
     }
     if let Ok(Ok(due)) = &due {
         tally.seen.path(plate, due);
+        tally.quoted.path(due);
     }
     Case::new(plate, strategy, tally, due, random)
 }
@@ -372,27 +378,27 @@ impl Case<'_> {
         let (due, written) =
             rule::retrace_outcome(result, &self.plate.lengths, slices.room(), work, distances);
         self.tally.count(&due);
-        match (due[0], &self.due) {
+        let number = due[0] as u32;
+        match (number, &self.due) {
             (rule::BAD_LAYER, _) => self.tally.met.lent(self.plate, distances, slices.room()),
             (6, Ok(due)) => self.tally.seen.full(due, written),
             _ => {}
         }
-        self.tally.parked.lent(self.plate, self.strategy, due[0], distances, slices.room());
+        self.tally.parked.lent(self.plate, self.strategy, number, distances, slices.room());
         let name =
             format!("call, lent slices of {path} and {marks}, and work of {work} and {distances}");
         let mut lent = LentSlices::random(slices, random);
         let is = self.called(&mut lent);
-        self.same("number, place and counts", &name, &is, &due)?;
-        self.left(&name, &lent, is[0], written)?;
+        self.same("number, place, counts and lengths", &name, &is, &due)?;
+        self.left(&name, &lent, number, written)?;
         self.near(&name, &lent, written)?;
-        let [0, _, points, cuts, back_steps, jumps, touches] = is else {
+        if number != 0 {
             return Ok(());
-        };
-        let counts = Counts { points, cuts, back_steps, jumps, touches };
-        let (path, marks) = (lent.path.slice(), lent.marks.slice());
-        self.checked(path, marks, counts)
+        }
+        let (path, marks) = (&lent.path.slice()[..2 * written], &lent.marks.slice()[..2 * written]);
+        self.checked(path, marks, is)
             .map_err(|broken| self.described(&format!("{name}: {broken}")))?;
-        self.accepted(&name, &path[..2 * points as usize], &marks[..2 * points as usize])
+        self.accepted(&name, path, marks)
     }
 
     /// The check call takes each path that is finished.
@@ -405,7 +411,7 @@ impl Case<'_> {
     }
 
     /// The library's answer.
-    fn called(&self, lent: &mut LentSlices) -> [u32; 7] {
+    fn called(&self, lent: &mut LentSlices) -> Answer {
         let (points, lengths, layers) = self.inputs();
         let Size { width, height } = self.plate.size;
         let path = lent.path.slice_mut();
@@ -423,8 +429,7 @@ impl Case<'_> {
                 )
             }
         };
-        let c::RetraceResult { number, place, points, cuts, back_steps, jumps, touches } = result;
-        [number, place, points, cuts, back_steps, jumps, touches]
+        answer(result)
     }
 
     /// What the call that gave this number left of all slices. That many path points are due.
@@ -462,16 +467,18 @@ impl Case<'_> {
     }
 
     /// What the checker says of a result.
-    fn checked(&self, path: &[f64], marks: &[u32], counts: Counts) -> Result<(), checker::Broken> {
+    fn checked(&self, path: &[f64], marks: &[u32], answer: Answer) -> Result<(), checker::Broken> {
+        let [_, _, points, cuts, back_steps, jumps, touches, cut, back_step, jump] = answer;
         let (path, _) = path.as_chunks();
         let (marks, _) = marks.as_chunks();
         checker::check(&Claim {
             points: &self.plate.points,
             lengths: &self.plate.lengths,
             layers: &self.plate.layers,
-            path: &path[..counts.points as usize],
-            marks: &marks[..counts.points as usize],
-            counts,
+            path,
+            marks,
+            counts: Counts { points, cuts, back_steps, jumps, touches },
+            sums: Lengths { cuts: cut, back_steps: back_step, jumps: jump },
         })
     }
 
@@ -500,6 +507,8 @@ impl Case<'_> {
         self.same("refusal", NAME, &refused, &due)?;
         if let (Ok(is), Ok(due)) = (outcome, &self.due) {
             self.same_path(NAME, &is, due)?;
+            let contours = plate.contour_lengths().map(|lengths| lengths.iter().sum());
+            self.same("lengths by contour", NAME, &contours, &Ok(due.lengths[0]))?;
         }
         self.inputs_kept(NAME)
     }
@@ -514,11 +523,16 @@ impl Case<'_> {
         let marks: Vec<[u32; 2]> = is.marks().iter().map(|mark| mark.numbers()).collect();
         self.same("marks", name, &marks, &due.marks)?;
         let twillharbor::Counts { points, cuts, back_steps, jumps, touches } = is.counts();
-        let counts = [points, cuts, back_steps, jumps, touches].map(|count| count as u32);
+        let counts = [points, cuts, back_steps, jumps, touches].map(|count| count as u64);
         let room = due.marks.len();
-        let ([_, _, counts_due @ ..], _) =
+        let ([_, _, counts_due @ .., _, _, _], _) =
             rule::retrace_outcome(Ok(due), &self.plate.lengths, room, usize::MAX, usize::MAX);
         self.same("counts", name, &counts, &counts_due)?;
+        let [cuts, back_steps, jumps] = due.lengths;
+        let lengths = twillharbor::Lengths { cuts, back_steps, jumps };
+        self.same("lengths", name, &is.lengths(), &Some(lengths))?;
+        let read = MarkedPath::of(path.as_flattened(), marks.as_flattened());
+        self.same("read again", name, &read.as_ref(), &Some(is))?;
         let pairs = is.pairs().map(|pair| match pair.kind {
             PairKind::Cut { segment } => [rule::retrace::CUT, segment],
             PairKind::BackStep { reversed } => [rule::retrace::BACK_STEP, reversed],
@@ -538,6 +552,16 @@ impl Case<'_> {
     }
 }
 
+/// The numbers of a result or refusal.
+pub fn answer(r: c::RetraceResult) -> Answer {
+    let numbers = [r.number, r.place, r.points, r.cuts, r.back_steps, r.jumps, r.touches];
+    let lengths = [r.cut_length, r.back_step_length, r.jump_length];
+    let mut answer = [0; 10];
+    answer[..7].copy_from_slice(&numbers.map(u64::from));
+    answer[7..].copy_from_slice(&lengths);
+    answer
+}
+
 #[cfg(test)]
 mod tests {
     use std::sync::atomic::Ordering;
@@ -547,7 +571,7 @@ mod tests {
     use twillharbor::StartPointStrategy::Inside;
 
     use super::{MOST, Tally, compare, handed};
-    use crate::checker::{self, Claim, Counts};
+    use crate::checker::{self, Claim, Counts, Lengths};
     use crate::meeting::{self, MEETINGS};
     use crate::plates::Plate;
     use crate::reference::retrace;
@@ -590,11 +614,13 @@ mod tests {
 
     /// What the checker says of a path with these marks, correctly counted.
     fn checked(plate: &Plate, due: &Retrace, marks: &[[u32; 2]]) -> Result<(), checker::Broken> {
-        let marked = |of| marks.iter().filter(|[kind, _]| *kind == of).count() as u32;
+        let marked = |of| marks.iter().filter(|[kind, _]| *kind == of).count() as u64;
         let [cuts, back_steps, jumps, touches] = [1, 2, 3, 4].map(marked);
-        let counts = Counts { points: marks.len() as u32, cuts, back_steps, jumps, touches };
+        let counts = Counts { points: marks.len() as u64, cuts, back_steps, jumps, touches };
+        let [cut, back_step, jump] = due.lengths;
+        let sums = Lengths { cuts: cut, back_steps: back_step, jumps: jump };
         let Plate { points, lengths, layers, .. } = plate;
-        checker::check(&Claim { points, lengths, layers, path: &due.path, marks, counts })
+        checker::check(&Claim { points, lengths, layers, path: &due.path, marks, counts, sums })
     }
 
     /// Each mark of the path is changed to each other kind, and the checker refuses that: a touch

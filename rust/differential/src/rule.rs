@@ -2,6 +2,7 @@
 //! point, written from their text and apart from the reference. The refusals are not the
 //! reference's: it refuses nothing.
 
+pub mod lengths;
 pub mod retrace;
 
 use twillharbor::StartPointStrategy::{self, Home, Inside, Outside};
@@ -119,40 +120,47 @@ pub struct Retrace {
     pub marks: Vec<[u32; 2]>,
     /// Otherwise the path has more points than these.
     pub whole: bool,
+    /// Of the cuts, of the back-steps, and of the jumps and touches, in 1,024ths.
+    pub lengths: [u64; 3],
     pub held: Held,
 }
 
-/// Refusals 5 and 6 of the retrace call, lent work slices of these lengths: the answer's
-/// number, place, points, cuts, back-steps, jumps and touches, and how many path points it
-/// writes. The room is at most as large as the beginning of a path that is not whole.
+/// The retrace call's number, place, points, cuts, back-steps, jumps and touches, and then its
+/// three lengths.
+pub type Answer = [u64; 10];
+
+/// Refusals 5 and 6 of the retrace call, lent work slices of these lengths: the answer, and how
+/// many path points it writes. The room is at most as large as the beginning of a path that is not
+/// whole.
 pub fn retrace_outcome(
     result: Result<&Retrace, Refused>,
     lengths: &[u32],
     room: usize,
     work: usize,
     distances: usize,
-) -> ([u32; 7], usize) {
-    let refused = |number, place| ([number, place, 0, 0, 0, 0, 0], 0);
-    let Retrace { marks, whole, .. } = match result {
-        Err((number, place)) => return refused(number, place),
+) -> (Answer, usize) {
+    let refused = |number, place| [number, place, 0, 0, 0, 0, 0, 0, 0, 0];
+    let Retrace { marks, whole, lengths: [cut, back_step, jump], .. } = match result {
+        Err((number, place)) => return (refused(number.into(), place.into()), 0),
         Ok(retrace) => retrace,
     };
     assert!(*whole || room <= marks.len(), "it is not known what fits");
     let contours = lengths.iter().filter(|&&length| length > 0).count();
     let points = lengths.iter().sum::<u32>() as usize;
     if work < retrace_work(room, points, lengths.len()) {
-        refused(5, 0)
+        (refused(5, 0), 0)
     } else if distances < lengths.len() {
-        refused(5, 1)
+        (refused(5, 1), 0)
     } else if marks.len() > room || !whole {
-        ([6, room as u32, 0, 0, 0, 0, 0], room)
+        (refused(6, room as u64), room)
     } else {
         let marked = |of| marks.iter().filter(|[kind, _]| *kind == of).count();
         let [back_steps, touches] = [retrace::BACK_STEP, retrace::TOUCH].map(marked);
         let jumps = contours.saturating_sub(1) - touches;
         let counts = [marks.len(), points - contours, back_steps, jumps, touches];
-        let [points, cuts, back_steps, jumps, touches] = counts.map(|count| count as u32);
-        ([0, 0, points, cuts, back_steps, jumps, touches], marks.len())
+        let [points, cuts, back_steps, jumps, touches] = counts.map(|count| count as u64);
+        let answer = [0, 0, points, cuts, back_steps, jumps, touches, *cut, *back_step, *jump];
+        (answer, marks.len())
     }
 }
 
@@ -496,24 +504,27 @@ mod tests {
     fn both_works_come_before_room() {
         // Plate E: two cuts, two steps back and a jump.
         let marks = vec![[0, 0], [1, 0], [1, 1], [2, 1], [2, 0], [3, 3]];
-        let held = Held::default();
-        let e = Retrace { path: vec![[0.0; 2]; 6], marks, whole: true, held };
+        let (held, lengths) = (Held::default(), [8_192, 8_192, 1_024]);
+        let e = Retrace { path: vec![[0.0; 2]; 6], marks, whole: true, lengths, held };
+        let whole = [0, 0, 6, 2, 2, 1, 0, 8_192, 8_192, 1_024];
+        let refused = |number, place| [number, place, 0, 0, 0, 0, 0, 0, 0, 0];
         let outcome = |e: &Retrace, room, work, distances| {
             retrace_outcome(Ok(e), &[3, 0, 1], room, work, distances)
         };
         let enough = 4 * 4 + 8 * 3 + 16_384;
-        assert_eq!(outcome(&e, 6, enough + 6, 3), ([0, 0, 6, 2, 2, 1, 0], 6));
-        assert_eq!(outcome(&e, 9, enough + 9, 9), ([0, 0, 6, 2, 2, 1, 0], 6));
-        assert_eq!(outcome(&e, 5, enough + 5, 3), ([6, 5, 0, 0, 0, 0, 0], 5));
-        assert_eq!(outcome(&e, 5, enough + 5, 2), ([5, 1, 0, 0, 0, 0, 0], 0));
-        assert_eq!(outcome(&e, 5, enough + 4, 2), ([5, 0, 0, 0, 0, 0, 0], 0));
-        let mut touching = e.clone();
+        assert_eq!(outcome(&e, 6, enough + 6, 3), (whole, 6));
+        assert_eq!(outcome(&e, 9, enough + 9, 9), (whole, 6));
+        assert_eq!(outcome(&e, 5, enough + 5, 3), (refused(6, 5), 5));
+        assert_eq!(outcome(&e, 5, enough + 5, 2), (refused(5, 1), 0));
+        assert_eq!(outcome(&e, 5, enough + 4, 2), (refused(5, 0), 0));
+        let mut touching = Retrace { lengths: [8_192, 8_192, 0], ..e.clone() };
         touching.marks[5] = [retrace::TOUCH, 3];
-        assert_eq!(outcome(&touching, 6, enough + 6, 3), ([0, 0, 6, 2, 2, 0, 1], 6));
+        let touched = [0, 0, 6, 2, 2, 0, 1, 8_192, 8_192, 0];
+        assert_eq!(outcome(&touching, 6, enough + 6, 3), (touched, 6));
         let beginning = Retrace { whole: false, ..e };
-        assert_eq!(outcome(&beginning, 6, enough + 6, 3), ([6, 6, 0, 0, 0, 0, 0], 6));
-        let blank = Retrace { path: vec![], marks: vec![], whole: true, held };
-        assert_eq!(retrace_outcome(Ok(&blank), &[0], 0, 16_392, 1), ([0; 7], 0));
-        assert_eq!(retrace_outcome(Err((4, 7)), &[1], 0, 0, 0), ([4, 7, 0, 0, 0, 0, 0], 0));
+        assert_eq!(outcome(&beginning, 6, enough + 6, 3), (refused(6, 6), 6));
+        let blank = Retrace { path: vec![], marks: vec![], whole: true, lengths: [0; 3], held };
+        assert_eq!(retrace_outcome(Ok(&blank), &[0], 0, 16_392, 1), ([0; 10], 0));
+        assert_eq!(retrace_outcome(Err((4, 7)), &[1], 0, 0, 0), (refused(4, 7), 0));
     }
 }

@@ -39,6 +39,7 @@ pub enum Command {
     Straight,
     Order,
     Start,
+    Quote,
     Check,
     Verify,
     Step,
@@ -54,6 +55,7 @@ impl Command {
             Self::Retrace | Self::Straight => &[Text, Json, Svg, PlateMarks, PlateFile],
             Self::Order | Self::Start => &[Text, Json, Svg, PlateMarks],
             Self::Read => &[Text, Json, Svg],
+            Self::Quote => &[Text, Json],
             Self::Check | Self::Verify | Self::Step | Self::View => &[],
         }
     }
@@ -105,11 +107,12 @@ impl Format {
     }
 }
 
-const PLATE_COMMANDS: [(&str, Command); 9] = [
+const PLATE_COMMANDS: [(&str, Command); 10] = [
     ("retrace", Command::Retrace),
     ("straight", Command::Straight),
     ("order", Command::Order),
     ("start", Command::Start),
+    ("quote", Command::Quote),
     ("check", Command::Check),
     ("verify", Command::Verify),
     ("step", Command::Step),
@@ -358,6 +361,7 @@ mod tests {
             ("straight --format=plate-file a", Format::PlateFile),
             ("read a --format svg", Format::Svg),
             ("read a", Format::Text),
+            ("quote a --format json --home 1,2 --layer 3 -o b", Format::Json),
         ] {
             let Ok(Request::Plate(request)) = parsed(line) else { panic!("{line}") };
             assert_eq!((request.source, request.format), (Source::File("a".into()), format));
@@ -464,6 +468,9 @@ mod tests {
                 "--format is text, json, svg, plate-marks or plate-file, not `file`",
             ),
             ("read a --format plate-marks", "--format is text, json or svg, not `plate-marks`"),
+            ("quote a --format svg", "--format is text or json, not `svg`"),
+            ("quote a --at 1", "quote has no option --at: see `twill help quote`"),
+            ("quote", "quote takes a FILE (`-` is the standard input)"),
             ("read a --layer 1", "read has no option --layer: see `twill help read`"),
             ("read a --home 1,2", "read has no option --home: see `twill help read`"),
             ("read", "read takes a FILE (`-` is the standard input)"),

@@ -8,6 +8,7 @@ pub fn text(command: Option<&str>) -> String {
         Some("straight") => include_str!("help/straight.txt"),
         Some("order") => include_str!("help/order.txt"),
         Some("start") => include_str!("help/start.txt"),
+        Some("quote") => include_str!("help/quote.txt"),
         Some("check") => include_str!("help/check.txt"),
         // Of the plate options the first has one, the other none.
         Some("verify") => return include_str!("help/verify.txt").into(),

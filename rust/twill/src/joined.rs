@@ -2,7 +2,7 @@
 
 use crate::plate::Handed;
 use crate::words;
-use twillharbor::{Mark, MarkedPath, Pair, PairKind, Point, Size, StartPointStrategy};
+use twillharbor::{Lengths, Mark, MarkedPath, Pair, PairKind, Point, Size, StartPointStrategy};
 
 /// What was handed over and what the library gave. Pair i goes from path point i − 1 to path
 /// point i, so pairs are numbered from 1.
@@ -130,6 +130,21 @@ impl Joined {
         let groove = if number == 0 { 0 } else { self.groove(number) };
         let (contour, _) = self.locate(self.vertex(groove));
         self.plate.layers[contour]
+    }
+
+    /// How long the path is by kinds of pairs, in 1,024ths. Of a plate file, which does not tell kinds,
+    /// the pairs are among the cuts.
+    pub fn lengths(&self) -> Lengths {
+        self.path
+            .lengths()
+            .expect("points of an accepted plate are within the distance call's limit")
+    }
+
+    /// How much of the path's length a pair is, in 1,024ths.
+    pub fn pair_length(&self, number: usize) -> u64 {
+        let pair = self.pair(number);
+        twillharbor::pair_length(pair.from, pair.to)
+            .expect("points of an accepted plate are within the distance call's limit")
     }
 
     /// All about a pair, by its number.

@@ -5,6 +5,7 @@ use crate::failure::Failure;
 use crate::joined::Joined;
 use crate::number::show;
 use crate::plate::{Handed, Plate, Position, Remark, file_name};
+use crate::quote::Quotation;
 use crate::read::Drawing;
 use crate::refused::{Loaded, distance_refused, refused};
 use crate::{help, output, plate_file, read, step, verify, view, words, write};
@@ -76,6 +77,7 @@ fn plate(request: &PlateRequest) -> Result<(), Failure> {
             let start = plate.start(size, strategy).map_err(refuse)?;
             write::start(&loaded.plate, start, request.format).into_bytes()
         }
+        Command::Quote => quote(&loaded, request.format)?.into_bytes(),
         Command::Check => return check(&loaded),
         Command::Verify => return verify(request, &loaded),
         Command::Step => return step(&retrace(&loaded)?, &loaded.name),
@@ -121,7 +123,8 @@ fn file(request: &PlateRequest, name: &str, content: &[u8]) -> Result<(), Failur
         | Command::Retrace
         | Command::Straight
         | Command::Order
-        | Command::Start => {
+        | Command::Start
+        | Command::Quote => {
             let line =
                 format!("{name}: a plate file holds a path and no contours: see `twill help read`");
             Err(Failure::file(line))
@@ -242,17 +245,25 @@ fn retrace(loaded: &Loaded) -> Result<Joined, Failure> {
     Ok(Joined::new(loaded.plate.clone(), path))
 }
 
+/// Of lengths that contradict each other there is no quotation.
+fn quote(loaded: &Loaded, format: Format) -> Result<String, Failure> {
+    let joined = retrace(loaded)?;
+    let quotation = Quotation::of(&joined)
+        .map_err(|fault| Failure::refused(format!("{}: {fault}", loaded.name)))?;
+    Ok(write::quote(&quotation, format))
+}
+
 /// The answer goes to the standard output, a refusal too.
 fn check(loaded: &Loaded) -> Result<(), Failure> {
     let Handed { points, lengths, size, strategy, .. } = &loaded.plate;
     let joined = told(retrace(loaded))?;
     let mut lines = format!(
-        "{}: accepted: {}, {}, {}\nretrace: {}\n",
+        "{}: accepted: {}, {}, {}\n{}",
         loaded.name,
         words::count(lengths.len(), "contour"),
         words::count(points.len() / 2, "point"),
         loaded.plate.terms(),
-        words::counts(joined.path.counts())
+        totals("retrace", &joined)
     );
     let layers = loaded.plate.layer_counts();
     if layers.len() > 1 {
@@ -265,6 +276,12 @@ fn check(loaded: &Loaded) -> Result<(), Failure> {
         lines += &format!("start: {refusal}\n");
     }
     output::print(lines)
+}
+
+/// A line of a path's counts and one of its lengths.
+fn totals(what: &str, joined: &Joined) -> String {
+    let counts = words::counts(joined.path.counts());
+    format!("{what}: {counts}\n{}\n", words::lengths(joined.lengths()))
 }
 
 /// A path that is to be verified, after its file's name for messages and its text.
@@ -291,13 +308,15 @@ fn verify(request: &PlateRequest, loaded: &Loaded) -> Result<(), Failure> {
     let (name, text, drawing) = drawing(source)?;
     let Drawing { path, marks, bytes } = &drawing;
     let Handed { points, lengths, .. } = &loaded.plate;
-    let sound = |points: usize| MarkedPath::of(&path[..2 * points], &marks[..2 * points]);
-    let (lines, shown, at) = match twillharbor::check_path(points, lengths, path, marks) {
+    let joined = |points: usize| {
+        let path = MarkedPath::of(&path[..2 * points], &marks[..2 * points])?;
+        Some(Joined::new(loaded.plate.clone(), path))
+    };
+    let (lines, shown, is_accepted) = match twillharbor::check_path(points, lengths, path, marks) {
         Ok(()) => {
-            let drawn = sound(bytes.len()).expect("the library has accepted its marks");
-            let counts = words::counts(drawn.counts());
-            let line = format!("{name}: accepted: it draws {}\npath: {counts}\n", loaded.name);
-            (line, Some(drawn), None)
+            let drawn = joined(bytes.len()).expect("the library has accepted its marks");
+            let totals = totals("path", &drawn);
+            (format!("{name}: accepted: it draws {}\n{totals}", loaded.name), Some(drawn), true)
         }
         Err(refusal @ Refusal::NotDrawn { place }) => {
             let place = place as usize;
@@ -306,22 +325,20 @@ fn verify(request: &PlateRequest, loaded: &Loaded) -> Result<(), Failure> {
                 None => String::new(),
             };
             let why = verify::why(&loaded.plate, &drawing, place).join("\n");
-            (format!("{name}{position}: refused: {refusal}\n{why}\n"), sound(place), Some(place))
+            (format!("{name}{position}: refused: {refusal}\n{why}\n"), joined(place), false)
         }
         // The plate is always handed over well.
         Err(refusal @ Refusal::Miscounted) => {
             let counted = words::count(bytes.len(), "path point");
             let marked = words::count(marks.len(), "number");
             let line = format!("{name}: refused: {refusal}: {counted}, and {marked} in marks\n");
-            (line, None, None)
+            (line, None, false)
         }
-        Err(refusal) => (format!("{}\n", refused(loaded, refusal)), None, None),
+        Err(refusal) => (format!("{}\n", refused(loaded, refusal)), None, false),
     };
-    let is_accepted = shown.is_some() && at.is_none();
     output::print(lines)?;
-    if let (Some(to), Some(path)) = (&request.output, shown) {
-        let joined = Joined::new(loaded.plate.clone(), path);
-        let at = at.map(|_| joined.count() as u32);
+    if let (Some(to), Some(joined)) = (&request.output, shown) {
+        let at = (!is_accepted).then(|| joined.count() as u32);
         save_page(to, &joined, &page_name(&request.source), at)?;
     }
     if is_accepted { Ok(()) } else { Err(Failure { status: 1, line: None }) }

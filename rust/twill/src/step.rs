@@ -162,7 +162,8 @@ mod tests {
         }
         let (file, mut out) = (of_file(), Vec::new());
         by_lines(State::new(&file, "file"), &b""[..], &mut out).unwrap();
-        let told = "pair 1 of 32  - pair\nfrom       (0,-0)\nto         (1,-0)\nlength     1\n\
+        let told = "pair 1 of 32  - pair\nfrom       (0,-0)\nto         (1,-0)\nlength     1, counted as 1024/1024\n\
+                    lengths    1 of 32\npasses     1 of 1 over this groove, first by pair 1, last by pair 1\n\
                     file       block 0 place 0 to block 0 place 1\n\
                     points     path points 0 and 1\n? lists the keys> \n";
         assert_eq!(String::from_utf8(out).unwrap(), told);

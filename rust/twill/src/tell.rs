@@ -66,7 +66,7 @@ pub fn details(joined: &Joined, told: &Told) -> Vec<(&'static str, String)> {
         return vec![
             ("from", point(told.pair.from)),
             ("to", point(told.pair.to)),
-            ("length", number::show(told.length)),
+            ("length", length(joined, told)),
             ("file", format!("{from} to {to}")),
             ("points", ends),
         ];
@@ -82,7 +82,7 @@ pub fn details(joined: &Joined, told: &Told) -> Vec<(&'static str, String)> {
     let mut details = vec![
         ("from", point(told.pair.from)),
         ("to", point(told.pair.to)),
-        ("length", number::show(told.length)),
+        ("length", length(joined, told)),
         (verb, what(joined, told)),
     ];
     details.extend(layer_detail(joined, told.number));
@@ -93,6 +93,12 @@ pub fn details(joined: &Joined, told: &Told) -> Vec<(&'static str, String)> {
     ]);
     details.extend(joined.plate.home().map(|home| ("home", parked(home))));
     details
+}
+
+/// The plain distance, and what it comes to in a quotation.
+fn length(joined: &Joined, told: &Told) -> String {
+    let counted = joined.pair_length(told.number);
+    format!("{}, counted as {counted}/1024", number::show(told.length))
 }
 
 /// Where a path point stands in a plate file.
@@ -365,7 +371,7 @@ pub mod tests {
         let expected = [
             ("from", "(4,1)"),
             ("to", "(0,1)"),
-            ("length", "4"),
+            ("length", "4, counted as 4096/1024"),
             ("cuts", "contour 1 segment 0 reversed"),
             ("mark", "kind 1 reference 1"),
             ("points", "path points 3 and 4"),

@@ -2,10 +2,11 @@
 //! block that other programs can read.
 
 use crate::joined::Joined;
-use crate::number;
+use crate::passes::Passes;
 use crate::plate::word;
+use crate::{number, write};
 use std::fmt::Write;
-use twillharbor::Point;
+use twillharbor::{Counts, Point};
 
 const TEMPLATE: &str = include_str!("view/page.html");
 const STYLE: &str = include_str!("view/page.css");
@@ -85,37 +86,53 @@ fn array(numbers: impl Iterator<Item = String>) -> String {
     array
 }
 
+/// What the path comes to: numbers of points and pairs, and lengths in 1,024ths.
+fn totals(joined: &Joined) -> [(&'static str, String); 8] {
+    let Counts { points, cuts, back_steps, jumps, touches } = joined.path.counts();
+    let lengths = joined.lengths();
+    [
+        ("points", points.to_string()),
+        ("cuts", cuts.to_string()),
+        ("back_steps", back_steps.to_string()),
+        ("jumps", jumps.to_string()),
+        ("touches", touches.to_string()),
+        ("cut_length", lengths.cuts.to_string()),
+        ("back_step_length", lengths.back_steps.to_string()),
+        ("jump_length", lengths.jumps.to_string()),
+    ]
+}
+
 /// All that the page shows, one member a line.
 fn data(joined: &Joined, name: &str, at: Option<u32>) -> String {
-    let counts = joined.path.counts();
     let plate = &joined.plate;
     let coordinates = joined.path.points().iter().flat_map(|p| [p.x, p.y]);
     let marks = joined.path.marks().iter().flat_map(|mark| mark.numbers());
     let lengths = (1..=joined.count()).map(|number| joined.tell(number).length);
+    let passes = Passes::of(joined.path.points());
     let layers = || ("layers", array(plate.layers.iter().map(u32::to_string)));
     let home = |home: Point| ("home", array([home.x, home.y].into_iter().map(number::json)));
-    let members = [
+    let terms = [
         ("name", in_json(name)),
         ("width", plate.size.width.to_string()),
         ("height", plate.size.height.to_string()),
         ("start", format!("\"{}\"", word(plate.strategy))),
-        ("points", counts.points.to_string()),
-        ("cuts", counts.cuts.to_string()),
-        ("back_steps", counts.back_steps.to_string()),
-        ("jumps", counts.jumps.to_string()),
-        ("touches", counts.touches.to_string()),
+    ];
+    let members = terms.into_iter().chain(totals(joined)).chain([
         ("contours", array(plate.lengths.iter().map(u32::to_string))),
         ("path", array(coordinates.map(number::json))),
         ("marks", array(marks.map(|m| m.to_string()))),
         ("lengths", array(lengths.map(number::json))),
-    ];
+        ("passes", write::passes(joined, &passes)),
+        ("first_passes", array(passes.firsts().iter().map(u32::to_string))),
+    ]);
     // A path that is checked may be of a plate whose parked point is no number: nobody tests it then.
     let parked = plate.home().filter(|home| home.x.is_finite() && home.y.is_finite());
-    let members = members.into_iter().chain(parked.map(home));
+    let members = members.chain(parked.map(home));
     let members = members.chain(plate.is_layered().then(layers));
     // Otherwise they follow from the marks.
     let vertices = || {
-        let vertices = (0..counts.points).map(|place| joined.vertex(place).to_string());
+        let vertices =
+            (0..joined.path.points().len()).map(|place| joined.vertex(place).to_string());
         ("vertices", array(vertices))
     };
     let members = members.chain(joined.leaves_another.then(vertices));
@@ -181,6 +198,20 @@ mod tests {
     }
 
     #[test]
+    fn the_data_block_holds_lengths_and_passes() {
+        // The first line is walked back over twice, and the last contour lies on it the other way round.
+        let (line, back) = ([(0.0, 0.0), (1.0, 1.0)], [(1.0, 1.0), (-0.0, 0.0)]);
+        let page = page(&joined(&[&line, &[(0.0, 0.0)], &[(0.0, 2.0)], &back], 0, 0), "a");
+        assert_eq!(numbers(&page, "marks").join(" "), "0 0 1 0 2 0 4 2 2 2 2 1 4 4 1 4 2 6 3 3");
+        let lengths = ["cut_length", "back_step_length", "jump_length"];
+        assert_eq!(lengths.map(|key| member(&page, key)), ["2896", "4344", "1448"]);
+        assert_eq!(numbers(&page, "first_passes"), ["1", "1", "0", "0", "1", "0", "1", "1", "9"]);
+        let most = "{\"most\":5,\"from\":[0,0],\"to\":[1,1],\"first\":1,\"last\":8,\
+                    \"grooves_with_most\":1,\"grooves\":2}";
+        assert_eq!(member(&page, "passes"), most);
+    }
+
+    #[test]
     fn the_data_block_holds_layers_where_there_are_any() {
         let contours: [&[(f64, f64)]; 3] = [&[(0.0, 0.0)], &[], &[(1.0, 0.0), (2.0, 0.0)]];
         let with = page(&layered(&contours, &[3, 0, 15], 0, 0), "a");
@@ -239,6 +270,9 @@ mod tests {
         assert_eq!((member(&empty, "path"), member(&empty, "marks")), ("[]", "[]"));
         let counts = ["points", "cuts", "back_steps", "jumps", "touches"];
         assert_eq!(counts.map(|key| member(&empty, key)), ["0"; 5]);
+        let lengths = ["cut_length", "back_step_length", "jump_length"];
+        assert_eq!(lengths.map(|key| member(&empty, key)), ["0"; 3]);
+        assert_eq!(member(&empty, "passes"), "{\"most\":0,\"grooves\":0}");
         let single = page(&joined(&[&[(0.5, -0.0)]], 0, 0), "single");
         assert_eq!((member(&single, "path"), member(&single, "marks")), ("[0.5,-0.0]", "[0,0]"));
         assert_eq!(member(&single, "lengths"), "[]");

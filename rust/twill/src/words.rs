@@ -1,7 +1,8 @@
 //! Words for kinds, and numbers in sentences.
 
-use crate::plate::LayerCounts;
-use twillharbor::{Counts, Mark};
+use crate::passes::Over;
+use crate::plate::{LayerCounts, point};
+use twillharbor::{Counts, Lengths, Mark, Pair};
 
 /// The word for a mark's kind.
 pub const fn kind(mark: Mark) -> &'static str {
@@ -65,11 +66,63 @@ pub fn counts(counts: Counts) -> String {
     )
 }
 
+/// A length in units, of which the library gives 1,024ths: the exact decimal.
+pub fn units(length: u64) -> String {
+    // A 1,024th is 0.0009765625.
+    let fraction = format!("{:010}", (length % 1_024) * 9_765_625);
+    let number = format!("{}.{fraction}", length / 1_024);
+    number.trim_end_matches('0').trim_end_matches('.').to_owned()
+}
+
+/// `lengths: cuts 8 = 8192/1024, back-steps 1.5 = 1536/1024, jumps 0 = 0/1024`.
+pub fn lengths(lengths: Lengths) -> String {
+    let Lengths { cuts, back_steps, jumps } = lengths;
+    let length = |length: u64| format!("{} = {length}/1024", units(length));
+    let [cuts, back_steps, jumps] = [cuts, back_steps, jumps].map(length);
+    format!("lengths: cuts {cuts}, back-steps {back_steps}, jumps {jumps}")
+}
+
+/// `passes: at most 2 over a groove, (0,0) -> (4,0), first by pair 1, last by pair 4`; the pair is the
+/// first.
+pub fn passes(most: Option<(Over, &Pair)>) -> String {
+    let Some((Over { passes, first, last }, pair)) = most else {
+        return "passes: there is no groove".to_owned();
+    };
+    let (from, to) = (point(pair.from), point(pair.to));
+    format!(
+        "passes: at most {passes} over a groove, {from} -> {to}, first by pair {first}, last by pair {last}"
+    )
+}
+
 #[cfg(test)]
 mod tests {
-    use super::{count, counts, layer, layers};
+    use super::{count, counts, layer, layers, lengths, units};
     use crate::plate::LayerCounts;
-    use twillharbor::Counts;
+    use twillharbor::{Counts, Lengths};
+
+    #[test]
+    fn units_are_exact_decimals() {
+        for (length, shown) in [
+            (0, "0"),
+            (1, "0.0009765625"),
+            (512, "0.5"),
+            (1_448, "1.4140625"),
+            (8_192, "8"),
+            (10 * 1_024 + 1_023, "10.9990234375"),
+            ((1 << 52) - 1, "4398046511103.9990234375"),
+            (u64::MAX, "18014398509481983.9990234375"),
+        ] {
+            assert_eq!(units(length), shown);
+            // What fits an f64 is read back as the same length.
+            if length < 1 << 53 {
+                assert_eq!(shown.parse::<f64>().unwrap() * 1_024.0, length as f64);
+            }
+        }
+        assert_eq!(
+            lengths(Lengths { cuts: 8_192, back_steps: 1, jumps: 0 }),
+            "lengths: cuts 8 = 8192/1024, back-steps 0.0009765625 = 1/1024, jumps 0 = 0/1024"
+        );
+    }
 
     #[test]
     fn layers_are_listed() {

@@ -1,15 +1,19 @@
 //! What the calls give, in the formats.
 
 mod picture;
+mod quote;
 
 use crate::args::Format;
 use crate::joined::Joined;
 use crate::number::{json, show};
+use crate::passes::Passes;
 use crate::plate::{self, Handed, word};
 use crate::plate_file::PlateFile;
 use crate::words;
 use std::fmt::Write;
-use twillharbor::{Entry, Mark, Point, Start, StartPointStrategy, write_file};
+use twillharbor::{Counts, Entry, Lengths, Mark, Point, Start, StartPointStrategy, write_file};
+
+pub use quote::quote;
 
 /// The path with its marks; a plate file has none.
 pub fn retrace(joined: &Joined, format: Format) -> Vec<u8> {
@@ -29,7 +33,11 @@ fn plate_file(path: &[Point]) -> Vec<u8> {
 
 fn retrace_text(joined: &Joined) -> String {
     let counts = words::counts(joined.path.counts());
-    let mut text = format!("# retrace, {}: {counts}\n", joined.plate.terms());
+    let lengths = words::lengths(joined.lengths());
+    let passes = Passes::of(joined.path.points());
+    let passes = words::passes(passes.most().map(|most| (most, joined.pair(most.first))));
+    let mut text =
+        format!("# retrace, {}: {counts}\n# {lengths}\n# {passes}\n", joined.plate.terms());
     for (place, (p, mark)) in joined.path.points().iter().zip(joined.path.marks()).enumerate() {
         let [_, reference] = mark.numbers();
         let kind = words::kind(*mark);
@@ -46,20 +54,48 @@ fn layer_field(is_layered: bool, layer: u32) -> String {
 }
 
 fn retrace_json(joined: &Joined) -> String {
-    let counts = joined.path.counts();
     let marks = list(joined.path.marks().iter().map(|mark| {
         let [kind, reference] = mark.numbers();
         format!("[{kind},{reference}]")
     }));
     format!(
-        "{{{},\n\"points\":{},\"cuts\":{},\"back_steps\":{},\"jumps\":{},\"touches\":{},\n\"path\":{},\n\"marks\":{marks}}}\n",
+        "{{{},\n{},\n\"lengths\":{},\n\"passes\":{},\n\"path\":{},\n\"marks\":{marks}}}\n",
         head(&joined.plate),
-        counts.points,
-        counts.cuts,
-        counts.back_steps,
-        counts.jumps,
-        counts.touches,
+        counts(joined.path.counts()),
+        lengths(joined.lengths()),
+        passes(joined, &Passes::of(joined.path.points())),
         coordinates(joined.path.points())
+    )
+}
+
+/// Counts as members of a JSON object.
+fn counts(counts: Counts) -> String {
+    let Counts { points, cuts, back_steps, jumps, touches } = counts;
+    format!(
+        "\"points\":{points},\"cuts\":{cuts},\"back_steps\":{back_steps},\"jumps\":{jumps},\"touches\":{touches}"
+    )
+}
+
+/// Lengths in 1,024ths as a JSON object.
+fn lengths(lengths: Lengths) -> String {
+    let Lengths { cuts, back_steps, jumps } = lengths;
+    format!("{{\"cuts\":{cuts},\"back_steps\":{back_steps},\"jumps\":{jumps}}}")
+}
+
+/// The greatest number of passes over one groove as a JSON object: where that is, and how many grooves
+/// there are.
+pub fn passes(joined: &Joined, passes: &Passes) -> String {
+    let grooves = passes.grooves();
+    let Some(most) = passes.most() else { return format!("{{\"most\":0,\"grooves\":{grooves}}}") };
+    let pair = joined.pair(most.first);
+    let [from, to] = [pair.from, pair.to].map(|p| format!("[{},{}]", json(p.x), json(p.y)));
+    format!(
+        "{{\"most\":{},\"from\":{from},\"to\":{to},\"first\":{},\"last\":{},\
+         \"grooves_with_most\":{},\"grooves\":{grooves}}}",
+        most.passes,
+        most.first,
+        most.last,
+        passes.grooves_with_most()
     )
 }
 

@@ -92,13 +92,19 @@ fn text_and_json_of_a_retraced_path() {
     assert_eq!(
         folder.twill("retrace e.json --inside").done(),
         "# retrace, 0 by 0, inside: 6 points: 2 cuts, 2 back-steps, 1 jump, 0 touches\n\
+         # lengths: cuts 8 = 8192/1024, back-steps 8 = 8192/1024, jumps 0.099609375 = 102/1024\n\
+         # passes: at most 2 over a groove, (0,0) -> (4,0), first by pair 1, last by pair 4\n\
          0 0 start 0\n4 0 cut 0\n8 0 cut 1\n4 0 back-step 1\n0 0 back-step 0\n-0 0.1 jump 3\n"
     );
     let json = folder.twill("retrace e.json --inside --format json").done();
     assert_eq!(
         json.replace('\n', ""),
         "{\"width\":0,\"height\":0,\"start\":\"inside\",\"points\":6,\"cuts\":2,\"back_steps\":2,\
-         \"jumps\":1,\"touches\":0,\"path\":[[0,0],[4,0],[8,0],[4,0],[0,0],[-0.0,0.1]],\
+         \"jumps\":1,\"touches\":0,\
+         \"lengths\":{\"cuts\":8192,\"back_steps\":8192,\"jumps\":102},\
+         \"passes\":{\"most\":2,\"from\":[0,0],\"to\":[4,0],\"first\":1,\"last\":4,\
+         \"grooves_with_most\":2,\"grooves\":3},\
+         \"path\":[[0,0],[4,0],[8,0],[4,0],[0,0],[-0.0,0.1]],\
          \"marks\":[[0,0],[1,0],[1,1],[2,1],[2,0],[3,3]]}"
     );
     let picture = folder.twill("retrace e.json --inside --format svg").done();
@@ -151,13 +157,16 @@ fn check_accepts_or_names_the_refusal() {
     assert_eq!(
         folder.twill("check good.txt").done(),
         "good.txt: accepted: 2 contours, 4 points, 8 by 2, outside\n\
-         retrace: 4 points: 2 cuts, 0 back-steps, 1 jump, 0 touches\n"
+         retrace: 4 points: 2 cuts, 0 back-steps, 1 jump, 0 touches\n\
+         lengths: cuts 8 = 8192/1024, back-steps 0 = 0/1024, jumps 1 = 1024/1024\n"
     );
     folder.put("empty.txt", "empty\nempty\n");
     assert_eq!(
         folder.twill("check empty.txt").done(),
         "empty.txt: accepted: 2 contours, 0 points, 0 by 0, outside\n\
-         retrace: 0 points: 0 cuts, 0 back-steps, 0 jumps, 0 touches\nstart: blank (refusal 7, place 0)\n"
+         retrace: 0 points: 0 cuts, 0 back-steps, 0 jumps, 0 touches\n\
+         lengths: cuts 0 = 0/1024, back-steps 0 = 0/1024, jumps 0 = 0/1024\n\
+         start: blank (refusal 7, place 0)\n"
     );
     assert_eq!(
         folder.twill("start empty.txt").failed(1),
@@ -324,8 +333,10 @@ fn help_tells_of_each_command() {
     let folder = Folder::new("help");
     let whole = folder.twill("help").done();
     assert_eq!(folder.twill("--help").done(), whole);
-    let commands =
-        ["retrace", "straight", "order", "start", "check", "step", "view", "read", "distance"];
+    let commands = [
+        "retrace", "straight", "order", "start", "quote", "check", "step", "view", "read",
+        "distance",
+    ];
     for command in commands {
         assert!(whole.contains(&format!("twill {command} ")), "{command}");
         let text = folder.twill(&format!("help {command}")).done();

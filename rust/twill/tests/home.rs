@@ -48,6 +48,8 @@ fn results_carry_the_parked_point() {
     assert_eq!(
         folder.twill("retrace a.txt --home 12,0.5").done(),
         "# retrace, 0 by 0, home (12,0.5): 4 points: 2 cuts, 0 back-steps, 1 jump, 0 touches\n\
+         # lengths: cuts 8 = 8192/1024, back-steps 0 = 0/1024, jumps 3.162109375 = 3238/1024\n\
+         # passes: at most 1 over a groove, (9,3) -> (5,3), first by pair 1, last by pair 1\n\
          9 3 start 3\n5 3 cut 2\n4 0 jump 1\n0 0 cut 0\n"
     );
     assert_eq!(
@@ -73,7 +75,8 @@ fn results_carry_the_parked_point() {
     assert_eq!(
         folder.twill("check a.txt --home 12,0.5").done(),
         "a.txt: accepted: 3 contours, 4 points, 0 by 0, home (12,0.5)\n\
-         retrace: 4 points: 2 cuts, 0 back-steps, 1 jump, 0 touches\n"
+         retrace: 4 points: 2 cuts, 0 back-steps, 1 jump, 0 touches\n\
+         lengths: cuts 8 = 8192/1024, back-steps 0 = 0/1024, jumps 3.162109375 = 3238/1024\n"
     );
 }
 

@@ -59,8 +59,10 @@ fn results_carry_layers() {
     assert_eq!(
         folder.twill("retrace a.txt").done(),
         format!(
-            "# retrace, {terms}: 6 points: 2 cuts, 1 back-step, 2 jumps, 0 touches\n0 0 start 0 0\n4 0 cut 0 0\n\
-             0 0 back-step 0 0\n0 2 jump 3 0\n4 2 cut 3 0\n4 1 jump 2 7\n"
+            "# retrace, {terms}: 6 points: 2 cuts, 1 back-step, 2 jumps, 0 touches\n\
+             # lengths: cuts 8 = 8192/1024, back-steps 4 = 4096/1024, jumps 3 = 3072/1024\n\
+             # passes: at most 2 over a groove, (0,0) -> (4,0), first by pair 1, last by pair 2\n\
+             0 0 start 0 0\n4 0 cut 0 0\n0 0 back-step 0 0\n0 2 jump 3 0\n4 2 cut 3 0\n4 1 jump 2 7\n"
         )
     );
     assert_eq!(
@@ -155,12 +157,14 @@ fn check_tells_how_much_is_of_each_layer() {
         folder.twill("check a.txt").done(),
         "a.txt: accepted: 4 contours, 5 points, 0 by 0, inside, layers 0 and 7\n\
          retrace: 6 points: 2 cuts, 1 back-step, 2 jumps, 0 touches\n\
+         lengths: cuts 8 = 8192/1024, back-steps 4 = 4096/1024, jumps 3 = 3072/1024\n\
          layer 0: 2 cuts, 2 contours\nlayer 7: 0 cuts, 1 contour\n"
     );
     assert_eq!(
         folder.twill_with("check -", "layer 3\n1 2\n").done(),
         "standard input: accepted: 1 contour, 1 point, 0 by 0, outside, layer 3\n\
-         retrace: 1 point: 0 cuts, 0 back-steps, 0 jumps, 0 touches\n"
+         retrace: 1 point: 0 cuts, 0 back-steps, 0 jumps, 0 touches\n\
+         lengths: cuts 0 = 0/1024, back-steps 0 = 0/1024, jumps 0 = 0/1024\n"
     );
 }
 
@@ -193,7 +197,8 @@ fn one_layer_alone_keeps_the_numbers_of_its_contours() {
     assert_eq!(
         folder.twill("check a.txt --layer 7").done(),
         "a.txt: accepted: 4 contours, 1 point, 0 by 0, inside, layer 7\n\
-         retrace: 1 point: 0 cuts, 0 back-steps, 0 jumps, 0 touches\n"
+         retrace: 1 point: 0 cuts, 0 back-steps, 0 jumps, 0 touches\n\
+         lengths: cuts 0 = 0/1024, back-steps 0 = 0/1024, jumps 0 = 0/1024\n"
     );
     assert_eq!(
         folder.twill("step a.txt --layer 7").done(),
@@ -205,7 +210,7 @@ fn one_layer_alone_keeps_the_numbers_of_its_contours() {
     assert!(
         line.starts_with("off.txt:5:1: refused: off the plate (refusal 4, place 3): contour 1, ")
     );
-    for command in ["retrace", "straight", "order", "start", "check", "step", "view"] {
+    for command in ["retrace", "straight", "order", "start", "quote", "check", "step", "view"] {
         assert_eq!(
             folder.twill(&format!("{command} a.txt --layer 3")).failed(2),
             "a.txt: no contour of layer 3 holds a point; the contours that do are of layers 0 and 7"
@@ -227,7 +232,9 @@ fn a_plate_of_empty_contours_has_no_layers_to_tell() {
     assert_eq!(
         folder.twill("check a.txt").done(),
         "a.txt: accepted: 2 contours, 0 points, 0 by 0, outside\n\
-         retrace: 0 points: 0 cuts, 0 back-steps, 0 jumps, 0 touches\nstart: blank (refusal 7, place 0)\n"
+         retrace: 0 points: 0 cuts, 0 back-steps, 0 jumps, 0 touches\n\
+         lengths: cuts 0 = 0/1024, back-steps 0 = 0/1024, jumps 0 = 0/1024\n\
+         start: blank (refusal 7, place 0)\n"
     );
     folder.put("plain.txt", "empty\nempty\n");
     for command in ["retrace", "straight", "order"] {
@@ -244,7 +251,7 @@ fn a_layer_above_15_is_the_librarys_refusal() {
     let folder = Folder::new("layer-refused");
     folder.put("a.txt", "1 2\nlayer 15\n3 4\n\nempty\n  layer 16\nempty\n\n5 nan\n");
     let line = "a.txt:6:3: refused: bad layer (refusal 13, place 3): contour 3 has a layer above 15: it is 16";
-    for command in ["retrace", "straight", "order", "start", "view", "step"] {
+    for command in ["retrace", "straight", "order", "start", "quote", "view", "step"] {
         assert_eq!(folder.twill(&format!("{command} a.txt")).failed(1), line);
     }
     let ran = folder.twill("check a.txt");

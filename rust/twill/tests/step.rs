@@ -160,7 +160,10 @@ fn keys_step_through_the_path() {
         "> 4 ~ back-step (4,0) -> (0,0) length 4 reverses pair 1 over cut 1 contour 0 ..",
         "  5 ^ jump      (0,0) -> (0,1) length 1 contour 0 vertex 0 to contour 1 vertex 0",
     ];
-    assert_eq!(rows[14..17], listed);
+    let lengths = "lengths    cuts 8 of 8, back-steps 8 of 8, jumps 0 of 1";
+    let passes = "passes     2 of 2 over this groove, first by pair 1, last by pair 4";
+    assert_eq!(rows[7..9], [lengths, passes]);
+    assert_eq!(rows[16..19], listed);
 }
 
 /// Touch, cut, back-step, touch, jump; one of the points touched is -0.
@@ -187,7 +190,8 @@ fn keys_go_to_jumps_and_to_touches() {
         "> 1 + touch     (0,0) -> (0,-0) length 0 contour 0 vertex 0 to contour 1 ..",
         "  2 - cut       (0,-0) -> (4,0) length 4 contour 1 segment 0",
     ];
-    assert_eq!(rows[12..14], listed);
+    assert_eq!(rows[8], "passes     none, as its points are equal");
+    assert_eq!(rows[14..16], listed);
 }
 
 #[test]
@@ -199,8 +203,8 @@ fn the_parked_point_stays_in_sight() {
     terminal.press("j", "pair 2 of 3  ^ jump");
     terminal.send("q");
     let rows = screen(&terminal.end());
-    assert_eq!(rows[10], "home       parked at (12,-1)");
-    assert_eq!(rows[12], "  0 o start     (9,3) on contour 1 vertex 1 home (12,-1)");
+    assert_eq!(rows[12], "home       parked at (12,-1)");
+    assert_eq!(rows[14], "  0 o start     (9,3) on contour 1 vertex 1 home (12,-1)");
 }
 
 #[test]
@@ -225,10 +229,11 @@ fn a_narrow_terminal_is_not_overrun() {
     let mut terminal = Terminal::new("narrow", "cols 10 rows 5", "NO_COLOR=1");
     terminal.wait("1 - cut");
     terminal.press("3\n", "back-step");
-    terminal.press("\t", "over cut 2");
+    terminal.press("\t", "4096/1024");
     terminal.send("q");
     let seen = terminal.end();
-    assert_eq!(screen(&seen), ["length 4", "reverses", "pair 2", "over cut 2", "Tab 2/9"]);
+    let shown = ["length 4,", "counted as", "4096/1024", "reverses", "Tab 2/13"];
+    assert_eq!(screen(&seen), shown);
     assert!(!seen.contains("\x1B[1;3") && !seen.contains("\x1B[7"), "{seen:?}");
 }
 

@@ -21,6 +21,8 @@ fn each_format_has_the_touch() {
     assert_eq!(
         folder.twill("retrace a.txt").done(),
         "# retrace, 0 by 0, inside: 8 points: 3 cuts, 2 back-steps, 1 jump, 1 touch\n\
+         # lengths: cuts 12 = 12288/1024, back-steps 8 = 8192/1024, jumps 1 = 1024/1024\n\
+         # passes: at most 2 over a groove, (0,0) -> (4,0), first by pair 1, last by pair 4\n\
          0 0 start 0\n4 0 cut 0\n8 0 cut 1\n4 0 back-step 1\n0 0 back-step 0\n-0 0 touch 3\n\
          0 4 cut 3\n0 5 jump 5\n"
     );
@@ -29,6 +31,9 @@ fn each_format_has_the_touch() {
         json.replace('\n', ""),
         "{\"width\":0,\"height\":0,\"start\":\"inside\",\"points\":8,\"cuts\":3,\"back_steps\":2,\
          \"jumps\":1,\"touches\":1,\
+         \"lengths\":{\"cuts\":12288,\"back_steps\":8192,\"jumps\":1024},\
+         \"passes\":{\"most\":2,\"from\":[0,0],\"to\":[4,0],\"first\":1,\"last\":4,\
+         \"grooves_with_most\":2,\"grooves\":4},\
          \"path\":[[0,0],[4,0],[8,0],[4,0],[0,0],[-0.0,0],[0,4],[0,5]],\
          \"marks\":[[0,0],[1,0],[1,1],[2,1],[2,0],[4,3],[1,3],[3,5]]}"
     );
@@ -67,7 +72,10 @@ fn totals_have_jumps_and_touches_apart() {
     let counts = "8 points: 3 cuts, 2 back-steps, 1 jump, 1 touch";
     assert_eq!(
         folder.twill("check a.txt").done(),
-        format!("a.txt: accepted: 3 contours, 6 points, 0 by 0, inside\nretrace: {counts}\n")
+        format!(
+            "a.txt: accepted: 3 contours, 6 points, 0 by 0, inside\nretrace: {counts}\n\
+             lengths: cuts 12 = 12288/1024, back-steps 8 = 8192/1024, jumps 1 = 1024/1024\n"
+        )
     );
     assert_eq!(
         folder.twill("view a.txt").done(),
@@ -192,7 +200,9 @@ fn the_sample_with_touches_is_accepted_and_its_picture_is_the_readmes() {
     assert_eq!(
         folder.twill("check snowflake.txt").done(),
         "snowflake.txt: accepted: 25 contours, 85 points, 0 by 0, inside\n\
-         retrace: 890 points: 60 cuts, 805 back-steps, 6 jumps, 18 touches\n"
+         retrace: 890 points: 60 cuts, 805 back-steps, 6 jumps, 18 touches\n\
+         lengths: cuts 527.97265625 = 540644/1024, back-steps 5821.1435546875 = 5960851/1024, \
+         jumps 29.9921875 = 30712/1024\n"
     );
     let lines = folder.twill("step snowflake.txt").done();
     assert!(lines.contains(" touch (0,0) -> (-0,0) length 0 "), "{lines}");

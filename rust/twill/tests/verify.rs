@@ -39,7 +39,8 @@ fn refused(folder: &Folder, line: usize, other: &str) -> String {
 #[test]
 fn a_path_is_accepted_with_its_counts() {
     let folder = folder("accepted");
-    let counts = "7 points: 2 cuts, 2 back-steps, 1 jump, 1 touch";
+    let counts = "7 points: 2 cuts, 2 back-steps, 1 jump, 1 touch\n\
+                  lengths: cuts 8 = 8192/1024, back-steps 8 = 8192/1024, jumps 1 = 1024/1024";
     assert_eq!(
         folder.twill("verify plate.txt path.txt").done(),
         format!("path.txt: accepted: it draws plate.txt\npath: {counts}\n")
@@ -57,14 +58,16 @@ fn a_path_is_accepted_with_its_counts() {
     assert_eq!(
         folder.twill("verify plate.txt other.txt").done(),
         "other.txt: accepted: it draws plate.txt\n\
-         path: 5 points: 2 cuts, 0 back-steps, 1 jump, 1 touch\n"
+         path: 5 points: 2 cuts, 0 back-steps, 1 jump, 1 touch\n\
+         lengths: cuts 8 = 8192/1024, back-steps 0 = 0/1024, jumps 8.0615234375 = 8255/1024\n"
     );
     folder.put("blank.txt", "empty\n");
     folder.put("none.txt", "# nothing\n");
     assert_eq!(
         folder.twill("verify blank.txt none.txt").done(),
         "none.txt: accepted: it draws blank.txt\n\
-         path: 0 points: 0 cuts, 0 back-steps, 0 jumps, 0 touches\n"
+         path: 0 points: 0 cuts, 0 back-steps, 0 jumps, 0 touches\n\
+         lengths: cuts 0 = 0/1024, back-steps 0 = 0/1024, jumps 0 = 0/1024\n"
     );
 }
 

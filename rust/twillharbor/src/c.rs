@@ -55,6 +55,7 @@ pub struct StraightResult {
 /// ```c
 /// struct twillharbor_retrace_result {
 ///     uint32_t number, place, points, cuts, back_steps, jumps, touches;
+///     uint64_t cut_length, back_step_length, jump_length;
 /// };
 /// ```
 #[repr(C)]
@@ -67,6 +68,9 @@ pub struct RetraceResult {
     pub back_steps: u32,
     pub jumps: u32,
     pub touches: u32,
+    pub cut_length: u64,
+    pub back_step_length: u64,
+    pub jump_length: u64,
 }
 
 /// ```c
@@ -653,8 +657,11 @@ mod tests {
     /// Points, lengths and the parked point, and the number and place with which they are refused.
     type Parked<'a> = (&'a [f64], &'a [u32], [f64; 2], u32, u32);
 
-    fn numbers(r: RetraceResult) -> [u32; 7] {
-        [r.number, r.place, r.points, r.cuts, r.back_steps, r.jumps, r.touches]
+    /// The number and the place of a refusal, whose other fields are 0.
+    fn refused(r: RetraceResult) -> [u32; 2] {
+        assert_eq!([r.points, r.cuts, r.back_steps, r.jumps, r.touches], [0; 5]);
+        assert_eq!([r.cut_length, r.back_step_length, r.jump_length], [0; 3]);
+        [r.number, r.place]
     }
 
     // The wrapper drops the other fields of a refusal, so that they are 0 is seen here alone.
@@ -704,7 +711,7 @@ mod tests {
                     &mut work,
                     &mut [],
                 );
-                assert_eq!(numbers(r), [number, place, 0, 0, 0, 0, 0]);
+                assert_eq!(refused(r), [number, place]);
             }
         }
         let r = start(&[], &[0], &[0], 7, 9, true);
@@ -743,7 +750,7 @@ mod tests {
                 &mut work,
                 &mut [8.0],
             );
-            assert_eq!(numbers(r), [number, place, 0, 0, 0, 0, 0]);
+            assert_eq!(refused(r), [number, place]);
         }
         let r = start_home(&[], &[0], &[0], -5.5, 1e6);
         assert_eq!([r.number, r.place, r.contour, r.reversed], [7, 0, 0, 0]);
@@ -775,7 +782,7 @@ mod tests {
                 &mut work[..held],
                 &mut [8.0; 2][..distances],
             );
-            assert_eq!(numbers(r), [number, place, 0, 0, 0, 0, 0]);
+            assert_eq!(refused(r), [number, place]);
         }
     }
 

@@ -4,7 +4,8 @@
 //! The work is done by a static library that was proved to give what documents 01
 //! and 02 of the project define. This crate calls it: it turns slices and results into
 //! Rust's types and a refusal into an error. It works out no answer itself; only whose
-//! coordinate a refusal 4 is, it tells by the parked point that was handed over.
+//! coordinate a refusal 4 is, it tells by the parked point that was handed over, and where no
+//! call gives them it makes lengths of the distance call's answers and adds them up.
 //!
 //! The answers hold for IEEE 754's default floating-point environment alone: rounding to
 //! nearest, ties to even, and subnormal numbers kept, as results and as operands. Rust itself
@@ -15,12 +16,14 @@
 
 pub mod c;
 mod check_path;
+mod lengths;
 mod plate;
 mod plate_file;
 mod refusal;
 mod retrace;
 
 pub use check_path::{check_path, check_path_with, check_path_work};
+pub use lengths::{Lengths, pair_length};
 pub use plate::{
     Entry, HIGHEST_LAYER, Plate, Size, Start, StartPointStrategy, order, order_into, start,
     straight, straight_into,
@@ -30,7 +33,9 @@ pub use plate_file::{
     write_file_into,
 };
 pub use refusal::{LayerFault, Refusal};
-pub use retrace::{Counts, Mark, MarkedPath, Pair, PairKind, retrace, retrace_into, retrace_work};
+pub use retrace::{
+    Counts, Mark, MarkedPath, Pair, PairKind, Totals, retrace, retrace_into, retrace_work,
+};
 
 /// A point of the plate.
 #[derive(Debug, Clone, Copy, PartialEq)]

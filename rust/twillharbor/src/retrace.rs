@@ -1,7 +1,7 @@
 //! The retrace call. It takes a plate as the other calls do, and gives a path with marks.
 
 use crate::plate::{MOST_CONTOURS, MOST_POINTS};
-use crate::{Plate, Point, Refusal, Size, StartPointStrategy, c};
+use crate::{Lengths, Plate, Point, Refusal, Size, StartPointStrategy, c};
 use StartPointStrategy::{Home, Inside, Outside};
 
 /// A path has at most so many points: C is at most this, however long the slices are.
@@ -122,6 +122,15 @@ pub struct Counts {
     pub touches: usize,
 }
 
+/// What a path comes to.
+#[derive(Debug, Clone, Copy, PartialEq, Eq, Hash, Default)]
+pub struct Totals {
+    /// How many points and pairs there are.
+    pub counts: Counts,
+    /// How long the pairs are, in 1,024ths.
+    pub lengths: Lengths,
+}
+
 /// A path, and how it comes to each of its points: what the retrace call gives, or one from
 /// elsewhere ([`MarkedPath::of`]).
 ///
@@ -132,6 +141,7 @@ pub struct MarkedPath {
     points: Vec<Point>,
     marks: Vec<Mark>,
     counts: Counts,
+    lengths: Option<Lengths>,
 }
 
 impl MarkedPath {
@@ -139,7 +149,8 @@ impl MarkedPath {
     ///
     /// Where the marks are not a start, if there is a path point, and then marks of the other
     /// kinds: then the library is not the one that this crate was written for.
-    fn new(path: &[f64], marks: &[u32], counts: Counts) -> Self {
+    fn new(path: &[f64], marks: &[u32], totals: Totals) -> Self {
+        let Totals { counts, lengths } = totals;
         let (path, _) = path[..2 * counts.points].as_chunks();
         let (marks, _) = marks[..2 * counts.points].as_chunks();
         let marks = marks.iter().enumerate().map(|(place, &numbers)| match Mark::of(numbers) {
@@ -150,11 +161,12 @@ impl MarkedPath {
             marks: marks.collect(),
             points: path.iter().map(|&[x, y]| Point { x, y }).collect(),
             counts,
+            lengths: Some(lengths),
         }
     }
 
-    /// A path from elsewhere, with its counts: two numbers of each slice to a path point. There is
-    /// none where the slices do not match, or where the marks are not a start, if there is a path
+    /// A path from elsewhere, with its counts and lengths: two numbers of each slice to a path
+    /// point. There is none where the slices do not match, or where the marks are not a start, if there is a path
     /// point, and then marks of the other kinds. Whether it draws a plate,
     /// [`check_path`](crate::check_path()) says.
     #[must_use]
@@ -172,7 +184,9 @@ impl MarkedPath {
         let of_kind = |kind| numbers.iter().filter(|&&[of, _]| of == kind).count();
         let [cuts, back_steps, jumps, touches] = [1, 2, 3, 4].map(of_kind);
         let counts = Counts { points: path.len(), cuts, back_steps, jumps, touches };
-        Some(Self { points: path.iter().map(|&[x, y]| Point { x, y }).collect(), marks, counts })
+        let points = path.iter().map(|&[x, y]| Point { x, y }).collect();
+        let read = Self { points, marks, counts, lengths: None };
+        Some(Self { lengths: Lengths::of(read.pairs()), ..read })
     }
 
     /// The path points.
@@ -191,6 +205,14 @@ impl MarkedPath {
     #[must_use]
     pub const fn counts(&self) -> Counts {
         self.counts
+    }
+
+    /// How long its pairs are: what the retrace call gave. Of a path from [elsewhere](Self::of) the
+    /// [lengths of its pairs](crate::pair_length) are added up; there are none where a coordinate is
+    /// beyond the distance call's limit, 2,147,483,648, or a sum beyond 64 bits.
+    #[must_use]
+    pub const fn lengths(&self) -> Option<Lengths> {
+        self.lengths
     }
 
     /// The first path point and its vertex; none where no contour holds a point.
@@ -250,7 +272,8 @@ pub fn retrace(
     Plate::new(points, lengths).retrace(size, strategy)
 }
 
-/// [`retrace`] into lent slices: gives the numbers of path points and of each kind of pair.
+/// [`retrace`] into lent slices: gives the numbers of path points and of each kind of pair, and
+/// how long these are.
 ///
 /// A path point is two numbers of `path`, horizontal then vertical, and two of `marks`, its
 /// kind and its reference ([`Mark::of`] reads them). C is the least of half the length of
@@ -275,7 +298,7 @@ pub fn retrace_into(
     marks: &mut [u32],
     work: &mut [u32],
     distances: &mut [f64],
-) -> Result<Counts, Refusal> {
+) -> Result<Totals, Refusal> {
     Plate::new(points, lengths).retrace_into(size, strategy, path, marks, work, distances)
 }
 
@@ -300,7 +323,7 @@ impl Plate<'_> {
             let outcome =
                 self.retrace_into(size, strategy, &mut path, &mut marks, &mut work, &mut distances);
             match outcome {
-                Ok(counts) => return Ok(MarkedPath::new(&path, &marks, counts)),
+                Ok(totals) => return Ok(MarkedPath::new(&path, &marks, totals)),
                 Err(Refusal::Full { .. }) if capacity < MOST_PATH_POINTS => {
                     capacity = (4 * capacity).min(MOST_PATH_POINTS);
                 }
@@ -323,7 +346,7 @@ impl Plate<'_> {
         marks: &mut [u32],
         work: &mut [u32],
         distances: &mut [f64],
-    ) -> Result<Counts, Refusal> {
+    ) -> Result<Totals, Refusal> {
         let Self { points, lengths, layers } = *self;
         let result = match strategy {
             Home(home) => c::retrace_home(
@@ -343,19 +366,27 @@ impl Plate<'_> {
             ),
         };
         self.accepted(result.number, result.place, strategy)?;
-        Ok(Counts {
-            points: result.points as usize,
-            cuts: result.cuts as usize,
-            back_steps: result.back_steps as usize,
-            jumps: result.jumps as usize,
-            touches: result.touches as usize,
+        Ok(Totals {
+            counts: Counts {
+                points: result.points as usize,
+                cuts: result.cuts as usize,
+                back_steps: result.back_steps as usize,
+                jumps: result.jumps as usize,
+                touches: result.touches as usize,
+            },
+            lengths: Lengths {
+                cuts: result.cut_length,
+                back_steps: result.back_step_length,
+                jumps: result.jump_length,
+            },
         })
     }
 }
 
 #[cfg(test)]
 mod tests {
-    use super::{Counts, Mark, MarkedPath};
+    use super::{Counts, Mark, MarkedPath, Totals};
+    use crate::Lengths;
 
     #[test]
     fn a_mark_is_its_two_numbers() {
@@ -370,24 +401,30 @@ mod tests {
     #[test]
     fn marks_that_no_path_has_do_not_pass() {
         let counts = Counts { points: 2, ..Counts::default() };
+        let totals = Totals { counts, ..Totals::default() };
         for kind in 1..5 {
-            assert_eq!(MarkedPath::new(&[0.0; 4], &[0, 0, kind, 1], counts).pairs().len(), 1);
+            assert_eq!(MarkedPath::new(&[0.0; 4], &[0, 0, kind, 1], totals).pairs().len(), 1);
         }
         for marks in [[0, 0, 0, 1], [1, 0, 1, 0], [4, 0, 4, 1], [0, 0, 5, 1]] {
-            let outcome = std::panic::catch_unwind(|| MarkedPath::new(&[0.0; 4], &marks, counts));
+            let outcome = std::panic::catch_unwind(|| MarkedPath::new(&[0.0; 4], &marks, totals));
             assert!(outcome.is_err(), "{marks:?} passed");
         }
     }
 
     #[test]
-    fn a_path_from_elsewhere_is_read_and_counted() {
+    fn a_path_from_elsewhere_is_read_and_added_up() {
         let path = [0.0, 0.0, 1.0, 0.0, 0.0, 0.0, 0.0, 0.0, 5.0, 0.0];
         let marks = [0, 7, 1, 7, 2, 0, 4, 1, 3, 9];
         let read = MarkedPath::of(&path, &marks).unwrap();
         let counts = Counts { points: 5, cuts: 1, back_steps: 1, jumps: 1, touches: 1 };
-        assert_eq!(read.counts(), counts);
-        assert_eq!(read, MarkedPath::new(&path, &marks, counts));
-        assert_eq!(MarkedPath::of(&[], &[]).unwrap().counts(), Counts::default());
+        let lengths = Lengths { cuts: 1_024, back_steps: 1_024, jumps: 5 * 1_024 };
+        assert_eq!((read.counts(), read.lengths()), (counts, Some(lengths)));
+        assert_eq!(read, MarkedPath::new(&path, &marks, Totals { counts, lengths }));
+        let empty = MarkedPath::of(&[], &[]).unwrap();
+        assert_eq!(
+            (empty.counts(), empty.lengths()),
+            (Counts::default(), Some(Lengths::default()))
+        );
         assert_eq!(MarkedPath::of(&path[..9], &marks), None);
         assert_eq!(MarkedPath::of(&path[..8], &marks), None);
         assert_eq!(MarkedPath::of(&path, &marks[..9]), None);

@@ -6,12 +6,13 @@ mod refused;
 use twillharbor::Refusal::{Full, WorkShort};
 use twillharbor::StartPointStrategy::{Inside, Outside};
 use twillharbor::{
-    Counts, Mark, PairKind, Point, Refusal, Size, StartPointStrategy, distance, retrace,
-    retrace_into, retrace_work,
+    Counts, Lengths, Mark, MarkedPath, PairKind, Point, Refusal, Size, StartPointStrategy, Totals,
+    distance, retrace, retrace_into, retrace_work,
 };
 
 const MOST: u32 = 1_048_576;
 const BOTH: [StartPointStrategy; 2] = [Outside, Inside];
+const NOTHING: Lengths = Lengths { cuts: 0, back_steps: 0, jumps: 0 };
 
 /// A marked plate and its path.
 struct Plate {
@@ -89,7 +90,7 @@ impl Slices {
         Self { path, marks: vec![7; marks], work: vec![7; work], distances }
     }
 
-    fn retrace(&mut self, plate: &Plate) -> Result<Counts, Refusal> {
+    fn retrace(&mut self, plate: &Plate) -> Result<Totals, Refusal> {
         let Plate { points, lengths, size, strategy, .. } = *plate;
         let Self { path, marks, work, distances } = self;
         retrace_into(points, lengths, size, strategy, path, marks, work, distances)
@@ -115,14 +116,23 @@ fn point(x: f64, y: f64) -> Point {
     Point { x, y }
 }
 
-/// The numbers are those of cuts, back-steps, jumps and touches.
-fn assert_retraced(plate: &Plate, [cuts, back_steps, jumps, touches]: [usize; 4]) {
+/// The numbers are those of cuts, back-steps, jumps and touches, then the lengths in 1,024ths, of
+/// jumps and touches together.
+fn assert_retraced(
+    plate: &Plate,
+    [cuts, back_steps, jumps, touches]: [usize; 4],
+    [cut, back, jumped]: [u64; 3],
+) {
     let counts = Counts { points: plate.path.len() / 2, cuts, back_steps, jumps, touches };
+    let lengths = Lengths { cuts: cut, back_steps: back, jumps: jumped };
     let path = retrace(plate.points, plate.lengths, plate.size, plate.strategy).unwrap();
     let points: Vec<f64> = path.points().iter().flat_map(|p| [p.x, p.y]).collect();
     let marks: Vec<u32> = path.marks().iter().flat_map(|mark| mark.numbers()).collect();
     assert_eq!((&points[..], &marks[..]), (plate.path, plate.marks));
-    assert_eq!(path.counts(), counts);
+    assert_eq!((path.counts(), path.lengths()), (counts, Some(lengths)));
+    assert_eq!(MarkedPath::of(&points, &marks), Some(path.clone()));
+    let contours = twillharbor::Plate::new(plate.points, plate.lengths).contour_lengths().unwrap();
+    assert_eq!(contours.iter().sum::<u64>(), lengths.cuts);
 
     assert_eq!(path.start(), Some((path.points()[0], plate.marks[1])));
     assert_eq!(path.pairs().len(), counts.points - 1);
@@ -138,7 +148,7 @@ fn assert_retraced(plate: &Plate, [cuts, back_steps, jumps, touches]: [usize; 4]
     }
 
     let mut slices = Slices::with_capacity(plate, counts.points);
-    assert_eq!(slices.retrace(plate), Ok(counts));
+    assert_eq!(slices.retrace(plate), Ok(Totals { counts, lengths }));
     slices.assert_written(plate, counts.points);
 }
 
@@ -161,7 +171,7 @@ fn plate_a_has_an_empty_path() {
         for strategy in BOTH {
             let path = retrace(&[], lengths, Size::default(), strategy).unwrap();
             assert_eq!((path.points(), path.marks()), (&[][..], &[][..]));
-            assert_eq!(path.counts(), Counts::default());
+            assert_eq!((path.counts(), path.lengths()), (Counts::default(), Some(NOTHING)));
             assert_eq!(path.start(), None);
             assert_eq!(path.pairs().count(), 0);
         }
@@ -170,12 +180,12 @@ fn plate_a_has_an_empty_path() {
 
 #[test]
 fn plate_d_is_two_cuts_and_a_jump() {
-    assert_retraced(&D, [2, 0, 1, 0]);
+    assert_retraced(&D, [2, 0, 1, 0], [8 * 1_024, 0, 1_024]);
 }
 
 #[test]
 fn plate_e_walks_back() {
-    assert_retraced(&E, [2, 2, 1, 0]);
+    assert_retraced(&E, [2, 2, 1, 0], [8 * 1_024, 8 * 1_024, 1_024]);
 }
 
 #[test]
@@ -190,7 +200,7 @@ fn plate_e_is_cut_short_where_four_fit() {
 
 #[test]
 fn plate_f_is_entered_in_the_middle() {
-    assert_retraced(&F, [2, 1, 1, 0]);
+    assert_retraced(&F, [2, 1, 1, 0], [8 * 1_024, 4 * 1_024, 1_024]);
     let path = retrace(F.points, F.lengths, F.size, F.strategy).unwrap();
     let pairs: Vec<_> = path.pairs().map(|pair| (pair.from, pair.to, pair.kind)).collect();
     let (low, middle) = (point(4.0, 0.0), point(4.0, 1.0));
@@ -208,7 +218,7 @@ fn plate_f_is_entered_in_the_middle() {
 
 #[test]
 fn plate_g_goes_back_to_the_start() {
-    assert_retraced(&G, [0, 1, 2, 0]);
+    assert_retraced(&G, [0, 1, 2, 0], [0, 1_024, 2 * 1_024]);
 }
 
 #[test]
@@ -232,7 +242,7 @@ fn skipped_contours_have_no_vertices() {
 
 #[test]
 fn a_touch_is_left_where_the_walk_back_ends() {
-    assert_retraced(&TOUCHING, [3, 2, 0, 1]);
+    assert_retraced(&TOUCHING, [3, 2, 0, 1], [12 * 1_024, 8 * 1_024, 0]);
     let path =
         retrace(TOUCHING.points, TOUCHING.lengths, TOUCHING.size, TOUCHING.strategy).unwrap();
     let touch = path.pairs().nth(4).unwrap();
@@ -341,7 +351,7 @@ fn a_result_alters_nothing_beyond_it() {
             let work = retrace_work(capacity, plate.points.len() / 2, plate.lengths.len());
             let (path, marks) = (2 * points + path, 2 * points + marks);
             let mut slices = Slices::of(path, marks, work, plate.lengths.len() + 1);
-            assert_eq!(slices.retrace(&plate).map(|counts| counts.points), Ok(points));
+            assert_eq!(slices.retrace(&plate).map(|totals| totals.counts.points), Ok(points));
             slices.assert_written(&plate, points);
         }
     }

@@ -9,12 +9,13 @@ use Rattle.std.proofs.lemmas.Result.{err_from_is_err_and}
 use Rattle.rules.specs.Tools.{sum}
 use Rattle.rules.specs.HandedOver.{plate, plate_of, gives, number_of, place_of, refusal, refused_by, plate_rows, retrace_work, answer_of, retrace_room}
 use Rattle.rules.specs.RetraceAndMarks.{retrace}
-use Rattle.path.specs.Accepted.{Accepted}
+use Rattle.path.specs.Accepted.{Accepted, input_gives}
+use Rattle.path.specs.Start.{AllTakePart, layered_part}
 use Rattle.path_points.specs.Wrote.{Wrote}
 use Rattle.joining.specs.Joining.{path_count}
-use Rattle.retrace.proofs.Outcome.{whole, whole_refused, not_full, met_refused, met_short, met_short_distances, met_full, met_whole, counted}
+use Rattle.retrace.proofs.Outcome.{whole, whole_refused, not_full, met_refused, met_short, met_short_distances, met_full, met_whole, counted, walked}
 use Rattle.retrace.proofs.retrace_call.Goals as goal
-use Rattle.retrace.proofs.retrace_call.Goals.{After-min-room, After-work_needed, Else-work-work_needed, After-join_retrace}
+use Rattle.retrace.proofs.retrace_call.Goals.{After-min-room, After-work_needed, Else-work-work_needed, After-join_retrace-joined}
 
 -- a plate that passed the checks
 sound : (c : After-min-room) →
@@ -39,12 +40,12 @@ enough c =
     omega (arith, c.if-work-work_needed.false, c.work_needed.ensures.needed, room_is r, (accepted r).counted)
 
 -- the path was joined, in room for C points
-wrote : (c : After-join_retrace) →
+wrote : (c : After-join_retrace-joined) →
     let a = c.args in
     Wrote a.input.now.points.now (retrace (plate_of a.input.now)) (retrace_room (length a.path.now) (length a.marks.now))
-    (path_count (retrace_room (length a.path.now) (length a.marks.now)) c.join_retrace.result) a.path.now c.join_retrace.new.path
-    a.marks.now c.join_retrace.new.marks
-wrote c = rw (c.in_ok-checked.ensures.same, room_is (goal.at.After-join_retrace c).After-min-room) at c.join_retrace.ensures.wrote
+    (path_count (retrace_room (length a.path.now) (length a.marks.now)) c.join_retrace-joined.result) a.path.now c.join_retrace-joined.new.path
+    a.marks.now c.join_retrace-joined.new.marks
+wrote c = rw (c.in_ok-checked.ensures.same, room_is (goal.at.After-join_retrace-joined c).After-min-room) at c.join_retrace-joined.ensures.wrote
 
 -- what the joining gave, where the call goes on, and where it does not
 joined : {T E D : Type 0} (r : Result T E) (d : D) (n : T) → Ok n ≡ result_or r (Err d) → r ≡ Ok n
@@ -54,6 +55,11 @@ joined (Err e) d n h = cc
 not_joined : {T E D : Type 0} (r : Result T E) (d f : D) → Err f ≡ result_or r (Err d) → (e : E) × (r ≡ Err e) × (f ≡ d)
 not_joined (Ok x) d f h = cc
 not_joined (Err e) d f h = (e, refl, cc)
+
+-- every contour takes part
+part : (c : After-min-room) → AllTakePart (plate_of c.args.input.now)
+unfolding plate
+part c = let p = plate_of c.args.input.now in layered_part p (input_gives p.points p.lengths p.layers p.strategy _ _ (sound c)).1
 
 pub returns-in_err-checked : goal.returns-in_err-checked
 unfolding answer_of refusal
@@ -95,12 +101,27 @@ returns-in_err-n c =
     let at = goal.at.returns-in_err-n c in
     let r = room_is at.After-min-room in
     let q = err_from_is_err_and c.from_residual-in_err-n.result c.from_residual-in_err-n.ensures.1 in
-    let e = not_joined c.join_retrace.result _ _ c.in_err-n.ensures in
+    let e = not_joined c.join_retrace-joined.result _ _ c.in_err-n.ensures in
     rw (q.1, q.2, e.2, r)
     (whole i.points.now i.lengths.now i.layers.now i.width i.height i.strategy c.work_needed.ensures.floats a.path.now a.marks.now a.work.now a.distances.now _ _ _ _ _
     (met_full p a.path.now a.marks.now a.work.now a.distances.now _ _
-    (sound at.After-min-room) (enough at.Else-work-work_needed) c.if-distances-input.false _ _ _ _ _ (rw e.1 at (wrote at.After-join_retrace))
+    (sound at.After-min-room) (enough at.Else-work-work_needed) c.if-distances-input.false _ _ _ _ _ (rw e.1 at (wrote at.After-join_retrace-joined))
     (omega arith)))
+
+pub totals-requires : goal.totals-requires
+unfolding plate
+totals-requires c =
+    let p = plate_of c.args.input.now in
+    let at = goal.at.totals-requires c in
+    let r = room_is at.After-min-room in
+    let e = joined c.join_retrace-joined.result _ _ c.in_ok-n.ensures in
+    let n = rw e at c.join_retrace-joined.ensures.fits in
+    let w = rw e at (wrote at.After-join_retrace-joined) in
+    let has = enough at.Else-work-work_needed in (
+      walked p _ _ _ _ _ _ w (omega (arith, n, r)) (accepted at.After-min-room) (part at.After-min-room),
+      omega (arith, n),
+      omega (arith, n, r, has),
+    )
 
 pub returns : goal.returns
 unfolding answer_of retrace_work plate
@@ -110,12 +131,11 @@ returns c =
     let p = plate_of i in
     let at = goal.at.returns c in
     let r = room_is at.After-min-room in
-    let e = joined c.join_retrace.result _ _ c.in_ok-n.ensures in
-    let n = rw e at c.join_retrace.ensures.fits in
-    let k = c.count_marks.ensures in
-    let w = rw e at (wrote at.After-join_retrace) in
+    let e = joined c.join_retrace-joined.result _ _ c.in_ok-n.ensures in
+    let n = rw e at c.join_retrace-joined.ensures.fits in
+    let w = rw e at (wrote at.After-join_retrace-joined) in
     whole i.points.now i.lengths.now i.layers.now i.width i.height i.strategy c.work_needed.ensures.floats a.path.now a.marks.now a.work.now a.distances.now _ _ _ _ _
     (met_whole p a.path.now a.marks.now a.work.now a.distances.now _ _
     (sound at.After-min-room) (enough at.Else-work-work_needed) c.if-distances-input.false _ _ _ _ _ w (omega (arith, n, r))
-    c.count_marks.result
-    (counted i.points.now (retrace p) _ _ _ _ _ _ w (omega (arith, n, r)) c.count_marks.result k.0 k.1 k.2 k.3 k.4))
+    c.totals.result
+    (counted p _ _ _ _ _ _ w (omega (arith, n, r)) c.totals.result c.totals.ensures))

@@ -7,7 +7,8 @@
 //!   slice, of the marks slice, of the u32 work slice and of the f64 work slice, and the parked
 //!   point's x and y, which are 0 but for Home;
 //! - the coordinates; the contours' lengths; the layers;
-//! - seven words: the call's number, place, points, cuts, back-steps, jumps and touches;
+//! - ten words: the call's number, place, points, cuts, back-steps, jumps and touches, and the
+//!   lengths of the cuts, of the back-steps, and of the jumps and touches, in 1,024ths;
 //! - the whole path slice as the call leaves it, where every element was [`PATH_FILL`];
 //! - the whole marks slice as the call leaves it, where every element was [`MARKS_FILL`].
 //!
@@ -17,14 +18,14 @@
 //! hold anything before the call, and hold the same after a refusal but 6.
 //!
 //! The path is the reference's. It has no marks: these are the documents' as transcribed in
-//! `rule`. A refusal and the counts are the documents' rule.
+//! `rule`. A refusal and the counts are the documents' rule, the lengths the reference's distances.
 
 use harness::random::Random;
 use twillharbor::StartPointStrategy::{self, Home, Inside, Outside};
 use twillharbor::{Point, Size};
 
 use super::{
-    PATH_FILL, Words, damaged_copy, fits, fitting_damages, home, in_layers, plate_of,
+    PATH_FILL, Words, damaged_copy, fits, fitting_damages, home, in_layers, measured, plate_of,
     refused_plates, touching, write_plate,
 };
 use crate::layers;
@@ -66,7 +67,7 @@ struct Row {
 /// then two of each kind of plate but those of `passed_over`, in layers, but one of each kind whose
 /// contours meet, the same number of each damage, and one plate by hand on which the search passes
 /// over a nearer point. Then come the rows of Home: plates that the parked point decides, and one
-/// of each kind of `plates`.
+/// of each kind of `plates`. Last come plates by hand for their lengths.
 pub fn retraces() -> String {
     let rows = rows();
     let mut words = Words::default();
@@ -87,7 +88,14 @@ fn rows() -> Vec<Row> {
     let points = points_of(&passed_over(), Inside);
     rows.push(fitted(passed_over(), Inside, 2 * points, 2 * points));
     rows.extend(home_rows());
+    rows.extend(measured_rows());
     rows
+}
+
+/// All fit.
+fn measured_rows() -> Vec<Row> {
+    let random = &mut Random::new(26);
+    measured::plates().into_iter().map(|plate| row(plate, Inside, 0, random)).collect()
 }
 
 /// Rows with parked points.
@@ -446,7 +454,7 @@ fn write_row(words: &mut Words, row: &Row) {
     let room = rule::retrace_room(path, marks);
     let lengths = &plate.lengths;
     let (answer, written) = rule::retrace_outcome(result, lengths, room, work, distances);
-    words.line(answer.map(u64::from));
+    words.line(answer);
     let mut path = vec![PATH_FILL; path];
     let mut marks = vec![MARKS_FILL; marks];
     if let Ok(due) = &due {
@@ -469,6 +477,7 @@ mod tests {
         passed_over, retraces, worked_out,
     };
     use crate::near::{self, PassedOver};
+    use crate::retracing::answer;
     use crate::rule::retrace::TOUCH;
 
     /// Reads the rows as a program without Rust would, and calls the library.
@@ -528,8 +537,7 @@ mod tests {
                     &mut distances,
                 )
             };
-            let answer = [r.number, r.place, r.points, r.cuts, r.back_steps, r.jumps, r.touches];
-            assert_eq!(answer.map(u64::from), [(); 7].map(|()| next()));
+            assert_eq!(answer(r), [(); 10].map(|()| next()));
             path.iter().for_each(|&x| assert_eq!(x.to_bits(), next()));
             marks.iter().for_each(|&n| assert_eq!(u64::from(n), next()));
             if r.number != 0 && r.number != 6 {

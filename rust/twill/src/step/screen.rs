@@ -2,7 +2,10 @@
 //! number is seen; where they need more rows than there are, they come in pages.
 
 use super::state::State;
+use crate::passes::Over;
 use crate::tell;
+use crate::words::units;
+use twillharbor::{Counts, Lengths};
 
 /// A row of the screen. `look` holds the parameters of the terminal's graphic rendition.
 #[derive(Debug, Clone, Default, PartialEq, Eq)]
@@ -57,17 +60,29 @@ pub fn frame(state: &State, rows: usize, columns: usize) -> Vec<Row> {
     frame
 }
 
-/// The current pair's values, with how many of each kind there are up to it.
+/// The current pair's values, with how many of each kind there are up to it and how long they are, and
+/// how often its groove has been passed over.
 pub fn items(state: &State) -> Vec<Item> {
     let mut items = match state.current {
         0 => tell::start_details(state.joined),
         number => tell::details(state.joined, &state.joined.tell(number)),
     };
-    if state.joined.blocks.is_some() {
-        return items;
+    let is_file = state.joined.blocks.is_some();
+    let place = items.len().min(if is_file { 3 } else { 4 });
+    let now = state.so_far();
+    let lengths = so_far_in_length(state, now.lengths);
+    let mut totals = vec![("lengths", lengths)];
+    if !is_file {
+        totals.insert(0, ("so far", so_far(state, now.counts)));
     }
-    let (now, all) = (state.so_far(), state.joined.path.counts());
-    let counts = format!(
+    totals.extend(passes(state).map(|passes| ("passes", passes)));
+    items.splice(place..place, totals);
+    items
+}
+
+fn so_far(state: &State, now: Counts) -> String {
+    let all = state.joined.path.counts();
+    format!(
         "cuts {} of {}, back-steps {} of {}, jumps {} of {}, touches {} of {}",
         now.cuts,
         all.cuts,
@@ -77,9 +92,32 @@ pub fn items(state: &State) -> Vec<Item> {
         all.jumps,
         now.touches,
         all.touches
-    );
-    items.insert(items.len().min(4), ("so far", counts));
-    items
+    )
+}
+
+/// In units. A plate file does not tell the kinds.
+fn so_far_in_length(state: &State, now: Lengths) -> String {
+    let all = state.joined.lengths();
+    let of = |now, all| format!("{} of {}", units(now), units(all));
+    let cuts = of(now.cuts, all.cuts);
+    if state.joined.blocks.is_some() {
+        return cuts;
+    }
+    let (back_steps, jumps) = (of(now.back_steps, all.back_steps), of(now.jumps, all.jumps));
+    format!("cuts {cuts}, back-steps {back_steps}, jumps {jumps}")
+}
+
+/// The passes over the current pair's groove up to it and in all; the start is no pair.
+fn passes(state: &State) -> Option<String> {
+    let number = state.current;
+    if number == 0 {
+        return None;
+    }
+    let Some(Over { passes, first, last }) = state.passes.over(number) else {
+        return Some("none, as its points are equal".to_owned());
+    };
+    let now = state.passes.so_far(number);
+    Some(format!("{now} of {passes} over this groove, first by pair {first}, last by pair {last}"))
 }
 
 pub fn help() -> Vec<Item> {
@@ -369,9 +407,11 @@ mod tests {
             "pair 3 of 5  ~ back-step",
             "from       (8,0)",
             "to         (4,0)",
-            "length     4",
+            "length     4, counted as 4096/1024",
             "reverses   pair 2 over cut 2 contour 0 segment 1",
             "so far     cuts 2 of 2, back-steps 1 of 2, jumps 0 of 1, touches 0 of 0",
+            "lengths    cuts 8 of 8, back-steps 4 of 8, jumps 0 of 1",
+            "passes     2 of 2 over this groove, first by pair 2, last by pair 3",
             "mark       kind 2 reference 1",
             "points     path points 2 and 3",
             "vertices   2 to 1 of the plate, contour 0 vertex 2 to contour 0 vertex 1",
@@ -385,7 +425,7 @@ mod tests {
             "",
             "Right on  Left back  j next jump  J jump before  g number  ? keys  q leave",
         ];
-        assert_eq!(shown(&state, 19, 80), expected);
+        assert_eq!(shown(&state, 21, 80), expected);
     }
 
     #[test]
@@ -399,6 +439,8 @@ mod tests {
             "to         (-0,0)",
             "touches    contour 0 vertex 0 to contour 1 vertex 0",
             "so far     cuts 1 of 2, back-steps 1 of 1, jumps 0 of 1, touches 1 of 1",
+            "lengths    cuts 4 of 8, back-steps 4 of 4, jumps 0 of 1",
+            "passes     none, as its points are equal",
             "mark       kind 4 reference 2",
             "> 3 + touch     (0,0) -> (-0,0) length 0 contour 0 vertex 0 to contour 1 ..",
             "  5 ^ jump      (0,4) -> (0,5) length 1 contour 1 vertex 1 to contour 2 vertex 0",
@@ -434,14 +476,14 @@ mod tests {
         let mut state = State::new(&plate, "e");
         state.current = 3;
         let pages = [
-            ["3", "back-step", "from (8,0)", "to (4,0)", "Tab 1/9"],
-            ["length 4", "reverses", "pair 2", "over cut 2", "Tab 2/9"],
+            ["3", "back-step", "from (8,0)", "to (4,0)", "Tab 1/13"],
+            ["length 4,", "counted as", "4096/1024", "reverses", "Tab 2/13"],
         ];
         for (page, rows) in pages.iter().enumerate() {
             state.page = page;
             assert_eq!(shown(&state, 5, 10), rows);
         }
-        state.page = 9;
+        state.page = 13;
         assert_eq!(shown(&state, 5, 10), pages[0]);
     }
 

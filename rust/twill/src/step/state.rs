@@ -2,8 +2,9 @@
 
 use super::keys::Key;
 use crate::joined::Joined;
+use crate::passes::Passes;
 use std::ops::ControlFlow;
-use twillharbor::{Counts, PairKind};
+use twillharbor::{Counts, Lengths, PairKind, Totals};
 
 /// As far as PageUp and PageDown go.
 const PAGE: usize = 10;
@@ -14,6 +15,9 @@ pub struct State<'a> {
     pub joined: &'a Joined,
     /// The file's name.
     pub name: &'a str,
+    pub passes: Passes,
+    /// The pairs' lengths in 1,024ths.
+    lengths: Vec<u64>,
     /// The number of the pair that is shown; 0 is the start.
     pub current: usize,
     /// The digits of a number that is being typed.
@@ -27,8 +31,18 @@ pub struct State<'a> {
 
 impl<'a> State<'a> {
     pub fn new(joined: &'a Joined, name: &'a str) -> Self {
-        let current = joined.count().min(1);
-        Self { joined, name, current, entry: None, message: None, is_help: false, page: 0 }
+        let (entry, message) = (None, None);
+        Self {
+            joined,
+            name,
+            passes: Passes::of(joined.path.points()),
+            lengths: (1..=joined.count()).map(|number| joined.pair_length(number)).collect(),
+            current: joined.count().min(1),
+            entry,
+            message,
+            is_help: false,
+            page: 0,
+        }
     }
 
     /// Does what a key asks for; breaks where it is to leave.
@@ -50,18 +64,21 @@ impl<'a> State<'a> {
         ControlFlow::Continue(())
     }
 
-    /// How many there are of each kind up to the current pair.
-    pub fn so_far(&self) -> Counts {
+    /// How many there are of each kind up to the current pair, and how long they are.
+    pub fn so_far(&self) -> Totals {
         let mut counts = Counts { points: self.current + 1, ..Counts::default() };
-        for number in 1..=self.current {
-            match self.joined.pair(number).kind {
-                PairKind::Cut { .. } => counts.cuts += 1,
-                PairKind::BackStep { .. } => counts.back_steps += 1,
-                PairKind::Jump { .. } => counts.jumps += 1,
-                PairKind::Touch { .. } => counts.touches += 1,
-            }
+        let mut lengths = Lengths::default();
+        for (number, length) in (1..=self.current).zip(&self.lengths) {
+            let (count, sum) = match self.joined.pair(number).kind {
+                PairKind::Cut { .. } => (&mut counts.cuts, &mut lengths.cuts),
+                PairKind::BackStep { .. } => (&mut counts.back_steps, &mut lengths.back_steps),
+                PairKind::Jump { .. } => (&mut counts.jumps, &mut lengths.jumps),
+                PairKind::Touch { .. } => (&mut counts.touches, &mut lengths.jumps),
+            };
+            *count += 1;
+            *sum += length;
         }
-        counts
+        Totals { counts, lengths }
     }
 
     fn act(&mut self, key: Key) {
@@ -164,8 +181,10 @@ impl<'a> State<'a> {
 #[cfg(test)]
 mod tests {
     use super::State;
+    use crate::joined::Joined;
     use crate::step::keys::Key;
     use crate::tell::tests::{joined, of_file, plate_e, touching};
+    use twillharbor::{Lengths, Totals};
 
     /// The current pair after each key; where a key leaves, the row ends.
     fn walk(state: &mut State, keys: &[Key]) -> Vec<usize> {
@@ -209,9 +228,10 @@ mod tests {
         let counts = [(0, 0), (0, 0), (0, 0), (0, 1), (0, 1), (1, 1)];
         for (current, expected) in counts.into_iter().enumerate() {
             state.current = current;
-            assert_eq!((state.so_far().jumps, state.so_far().touches), expected);
+            let counts = state.so_far().counts;
+            assert_eq!((counts.jumps, counts.touches), expected);
         }
-        assert_eq!(state.so_far(), plate.path.counts());
+        assert_eq!(state.so_far(), totals(&plate));
     }
 
     #[test]
@@ -290,10 +310,29 @@ mod tests {
         let counts = [(0, 0, 0), (1, 0, 0), (2, 0, 0), (2, 1, 0), (2, 2, 0), (2, 2, 1)];
         for (current, expected) in counts.into_iter().enumerate() {
             state.current = current;
-            let counts = state.so_far();
+            let counts = state.so_far().counts;
             assert_eq!((counts.cuts, counts.back_steps, counts.jumps), expected);
         }
-        assert_eq!(state.so_far(), plate.path.counts());
+        assert_eq!(state.so_far(), totals(&plate));
+    }
+
+    /// Those of the whole path, as the library gave them.
+    fn totals(joined: &Joined) -> Totals {
+        Totals { counts: joined.path.counts(), lengths: joined.lengths() }
+    }
+
+    #[test]
+    fn lengths_are_those_up_to_the_pair() {
+        // A diagonal counts 1,448, its square root of 2 being rounded down, whenever it is run over.
+        let plate = joined(&[&[(0.0, 0.0), (1.0, 1.0)], &[(0.0, 0.0)], &[(0.0, 0.5)]], 0, 0);
+        let mut state = State::new(&plate, "diagonal");
+        let lengths = [(0, 0, 0), (1_448, 0, 0), (1_448, 1_448, 0), (1_448, 1_448, 0)];
+        for (current, expected) in lengths.into_iter().chain([(1_448, 1_448, 512)]).enumerate() {
+            state.current = current;
+            let Lengths { cuts, back_steps, jumps } = state.so_far().lengths;
+            assert_eq!((cuts, back_steps, jumps), expected, "{current}");
+        }
+        assert_eq!(state.so_far(), totals(&plate));
     }
 
     #[test]

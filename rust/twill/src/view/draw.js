@@ -6,8 +6,9 @@
 const canvas = element("canvas");
 const context = canvas.getContext("2d", { alpha: false });
 let ratio = 1;
-/** `only` is the layer whose pairs alone are drawn; null if all are. */
-let view = { x: 0, y: 0, scale: 1, width: 1, height: 1, only: null };
+/** `only` is the layer whose pairs alone are drawn; null if all are. `byPasses` tells whether grooves are
+ *  drawn by their numbers of passes and not by kinds. */
+let view = { x: 0, y: 0, scale: 1, width: 1, height: 1, only: null, byPasses: false };
 let isFitted = true;
 
 /** The room around the plate when it is fitted; above it are the buttons. */
@@ -42,7 +43,7 @@ function setView(changed) {
 
 const sameView = (a, b) =>
   a.x === b.x && a.y === b.y && a.scale === b.scale && a.width === b.width && a.height === b.height
-  && a.only === b.only;
+  && a.only === b.only && a.byPasses === b.byPasses;
 
 /** Zooms by a factor; the place at these pixels stays where it is. */
 function zoom(factor, px, py) {
@@ -204,8 +205,23 @@ function drawJumps(target, v, list, from, to, style) {
 
 const DRAW = [null, drawCuts, drawBackSteps, drawJumps];
 
+/** The same by passes: a line for each groove, which covers the one that it had with fewer passes. */
+function drawPasses(target, v, style, list, from, to) {
+  let at = from;
+  while (at < to) {
+    const shade = passClass(passRanks[list[at]]);
+    const most = Math.min(to, at + (style.isFine ? 8 * BATCH : BATCH));
+    let end = at + 1;
+    while (end < most && passClass(passRanks[list[end]]) === shade) end++;
+    pen(target, PASS_COLOURS[shade], style.passes[shade]);
+    drawCuts(target, v, list, at, end);
+    at = end;
+  }
+}
+
 /** Draws the list's items from one place to another, each over those before it. */
 function drawItems(target, v, style, list, from, to) {
+  if (v.byPasses) { drawPasses(target, v, style, list, from, to); return; }
   let at = from;
   while (at < to) {
     const kind = kindOf(list[at]), layer = pairLayers[list[at]];
@@ -227,7 +243,7 @@ function styleOf(isFine, size) {
   const fine = isFine || ratio < 2 ? 1 : 0.75 * ratio, k = size * ratio;
   const width = (most) => (isFine ? fine : Math.max(most * k, fine));
   return {
-    isFine, widths: [0, width(1.7), width(2.4), width(1.8)], pale: fine,
+    isFine, widths: [0, width(1.7), width(2.4), width(1.8)], passes: PASS_WIDTHS.map(width), pale: fine,
     touch: Math.max(6 * k, 4 * ratio),
     dot: 2.5 * k, period: 6.5 * ratio, aside: Math.max(4 * k, 2.2 * ratio),
     dashes: Math.max(k, 0.7 * ratio), dash: 11 * Math.max(k, 0.7 * ratio), head: 11 * Math.max(k, 0.6 * ratio), lone: 2.6 * k,
@@ -235,8 +251,8 @@ function styleOf(isFine, size) {
 }
 
 /** About how many microseconds an item takes to draw without a graphics card. */
-function costOf(pair, length, style) {
-  const kind = kindOf(pair), dashes = kind === CUT && layerDashes(pairLayers[pair]);
+function costOf(pair, length, style, byPasses) {
+  const kind = byPasses ? CUT : kindOf(pair), dashes = !byPasses && kind === CUT && layerDashes(pairLayers[pair]);
   if (dashes) return (style.isFine ? 0.6 : 1.6) * (1 + (2 * length) / (dashes.period * style.dashes));
   if (kind === CUT) return style.isFine ? 0.5 + 0.012 * length : 3 + 0.05 * length;
   if (kind === BACK_STEP) return (style.isFine ? 0.4 : 1.1) * (1 + length / style.period);
@@ -263,6 +279,7 @@ const brush = (c) => c.getContext("2d", { alpha: false });
 class Picture {
   constructor(v) {
     this.view = v;
+    const items = itemsOf(v);
     const seen = new Uint32Array(items.length);
     const lengthsSeen = new Float32Array(items.length);
     const longest = Math.hypot(v.width, v.height), reach = 16 * ratio;
@@ -278,6 +295,7 @@ class Picture {
     }
     this.list = seen.slice(0, count);
     this.touches = Uint32Array.from(signs);
+    this.numbered = v.byPasses ? numberedOf(this.list, lengthsSeen) : [];
     // What is to come, and all of the layers that are not asked for, is pale.
     const apart = [...others, ...signs];
     this.palePairs = new Uint32Array(apart.length + count);
@@ -306,7 +324,7 @@ class Picture {
     // Before item i, costs[i] microseconds are spent.
     this.costs = new Float64Array(list.length + 1);
     for (let at = 0; at < list.length; at++) {
-      const cost = costOf(list[at], lengthsSeen[at], this.style);
+      const cost = costOf(list[at], lengthsSeen[at], this.style, this.view.byPasses);
       this.costs[at + 1] = this.costs[at] + cost;
     }
     this.cost = this.costs[list.length];
@@ -497,6 +515,44 @@ function drawTouches({ touches, style }) {
     if (!isMany) context.fill();
     context.stroke();
   }
+}
+
+// ---- Numbers of passes on the grooves, where there is room. They are drawn in each frame over what is
+// engraved; where the path goes on, they grow.
+
+const MOST_NUMBERED = 3000, MOST_NUMBERS = 150;
+
+/** The grooves among these items that are long enough for a number, those with most passes first. */
+function numberedOf(list, lengthsSeen) {
+  const isLong = (pair, at) => firstPasses[pair] === pair && lengthsSeen[at] >= 30 * ratio;
+  const found = list.filter(isLong).sort((a, b) => passTotals[b] - passTotals[a] || a - b);
+  return found.subarray(0, MOST_NUMBERED);
+}
+
+/** What has most passes by now comes first, and what would lie on another number is left out. */
+function drawNumbers({ numbered }) {
+  const due = [...numbered].filter((first) => first <= current)
+    .map((first) => ({ first, passes: countUpTo(pairsOver(first), current) }))
+    .sort((a, b) => b.passes - a.passes || a.first - b.first);
+  const [wide, high] = [34 * ratio, 18 * ratio], taken = new Set();
+  let count = 0;
+  context.font = `600 ${13 * ratio}px system-ui, sans-serif`;
+  context.textBaseline = "middle";
+  context.textAlign = "center";
+  pen(context, SHEET, 4 * ratio);
+  for (const { first, passes } of due) {
+    if (count === MOST_NUMBERS) break;
+    if (!lay(view, first, 0)) continue;
+    const along = (line.first + line.last) / 2, x = line.x + line.ux * along, y = line.y + line.uy * along;
+    const [column, row] = [Math.floor(x / wide), Math.floor(y / high)];
+    if (taken.has(`${column} ${row}`)) continue;
+    count++;
+    for (const across of [-1, 0, 1]) for (const down of [-1, 0, 1]) taken.add(`${column + across} ${row + down}`);
+    context.strokeText(passes, x, y);
+    context.fillStyle = EDGE;
+    context.fillText(passes, x, y);
+  }
+  context.textAlign = "start";
 }
 
 // ---- The current pair.

@@ -22,7 +22,7 @@ function turn() {
     return;
   }
   // A picture that is soon made is made in each frame of a pan or zoom; others wait for its end.
-  const isQuick = items.length < 2e5 && (!shown || shown.cost < SLICE) && (!next || next.cost < SLICE);
+  const isQuick = itemsOf(view).length < 2e5 && (!shown || shown.cost < SLICE) && (!next || next.cost < SLICE);
   if (!next || !sameView(next.view, view)) {
     if (shown && !isQuick && performance.now() - viewSince < 90) return;
     retire(next);
@@ -59,6 +59,7 @@ function compose() {
   if (home) drawHome();
   if (points) drawStart();
   drawCurrent();
+  if (shown) drawNumbers(shown);
 }
 
 function frame(now) {
@@ -124,6 +125,17 @@ function plain(number) {
   return isLong ? number.toExponential().replace("e+", "e") : String(number);
 }
 const grouped = (number) => number.toLocaleString("en-US");
+/** A length in 1,024ths as the exact decimal of its units: a 1,024th is 0.0009765625. */
+function unitsText(length) {
+  const fraction = String((length % 1024) * 9765625).padStart(10, "0");
+  return `${Math.floor(length / 1024)}.${fraction}`.replace(/\.?0+$/, "");
+}
+/** How much of the whole a length is, to the nearest hundredth of a percent. */
+function percentText(length, whole) {
+  if (!whole) return "";
+  const hundredths = (20000n * BigInt(length) + BigInt(whole)) / (2n * BigInt(whole));
+  return `${hundredths / 100n}.${String(hundredths % 100n).padStart(2, "0")} %`;
+}
 const pointText = ([x, y]) => `(${plain(x)}, ${plain(y)})`;
 const vertexText = ([contour, vertex]) => isFile
   ? `block ${grouped(Math.floor(vertex / BLOCK_POINTS))}, place ${vertex % BLOCK_POINTS}`
@@ -152,7 +164,7 @@ const WHAT = { cut: "Segment", "back-step": "Groove", jump: "Jump", touch: "Touc
 const facts = {};
 
 function makeFacts() {
-  const rows = [["from", "From"], ["to", "To"], ["what", ""], ["length", "Length"], ["mark", "Mark"]];
+  const rows = [["from", "From"], ["to", "To"], ["what", ""], ["length", "Length"], ["passes", "Passes"], ["mark", "Mark"]];
   if (layers) rows.splice(3, 0, ["layer", "Layer"]);
   for (const [key, label] of rows) {
     if (isFile && (key === "what" || key === "mark")) continue;
@@ -174,6 +186,12 @@ function makeFacts() {
 function setFact(key, first, second) {
   facts[key].strong.textContent = first;
   facts[key].small.textContent = second;
+}
+
+function passesTexts(passes) {
+  if (!passes) return ["none", "the points are equal"];
+  const { now, all, first, last } = passes;
+  return [`${grouped(now)} of ${grouped(all)}`, `over this groove, by pair ${grouped(first)} first, ${grouped(last)} last`];
 }
 
 /** What the pair is by its mark. */
@@ -201,12 +219,14 @@ function showPair() {
   setFact("to", pointText(pair.to), vertexText(pair.toVertex));
   const what = isFile ? "" : showWhat(pair);
   if (layers) setFact("layer", String(pair.layer), "");
-  setFact("length", plain(pair.length), "");
+  setFact("length", plain(pair.length), `counted as ${grouped(pair.counted)}/1,024`);
+  setFact("passes", ...passesTexts(pair.passes));
   showControls(pair);
   keepHeight();
   later(() => {
     element("spoken").textContent = `Pair ${grouped(pair.number)}${what}, from `
       + `${pointText(pair.from)} to ${pointText(pair.to)}, length ${plain(pair.length)}`
+      + (pair.passes ? `, pass ${pair.passes.now} of ${pair.passes.all}` : "")
       + (layers ? `, layer ${pair.layer}` : "");
     keepAddress();
   });
@@ -367,6 +387,62 @@ function nextLayer() {
   showLayer();
 }
 
+// ---- Lengths, in which the touches are among the jumps, and passes.
+
+function makeLengths() {
+  const sums = { cuts: data.cut_length, "back-steps": data.back_step_length, jumps: data.jump_length };
+  const whole = sums.cuts + sums["back-steps"] + sums.jumps;
+  for (const [kind, sum] of Object.entries({ ...sums, whole })) {
+    const [units, parts, share] = [...element(`length-${kind}`).children].slice(1);
+    units.textContent = unitsText(sum);
+    parts.textContent = grouped(sum);
+    share.textContent = percentText(sum, whole);
+  }
+}
+
+function passRow({ at, from, to, grooves }) {
+  const row = element("pass-row").content.firstElementChild.cloneNode(true);
+  const sample = row.querySelector("path");
+  sample.setAttribute("stroke", PASS_COLOURS[at]);
+  sample.setAttribute("stroke-width", PASS_WIDTHS[at]);
+  const [, name, total] = row.children;
+  const range = to === null ? `${from} or more` : from === to ? `${from}` : `${from} to ${to}`;
+  name.textContent = `${range} ${to === 1 ? "pass" : "passes"}`;
+  total.textContent = `${grouped(grooves)} ${grooves === 1 ? "groove" : "grooves"}`;
+  return row;
+}
+
+/** A control that goes to a pair. */
+function pairLink(pair) {
+  const link = Object.assign(document.createElement("button"), { type: "button", textContent: `pair ${grouped(pair)}` });
+  link.addEventListener("click", () => go(pair));
+  return link;
+}
+
+function makePasses() {
+  const { most, first, last, grooves_with_most: count } = data.passes;
+  const told = element("most-passes");
+  if (!most) { told.textContent = "There is no groove."; element("by-passes").disabled = true; return; }
+  const others = count > 1 ? `; ${grouped(count - 1)} more ${count > 2 ? "have" : "has"} as many` : "";
+  told.append(`Most over one groove: ${grouped(most)}, first by `, pairLink(first), ", last by ", pairLink(last), `${others}.`);
+  element("pass-rows").append(...passCounts.map(passRow));
+  element("by-passes").addEventListener("change", showPasses);
+}
+
+/** Draws grooves by their passes, with a sample of each class, or by kinds. */
+function showPasses() {
+  const byPasses = element("by-passes").checked;
+  element("pass-rows").parentElement.hidden = !byPasses;
+  setView({ ...view, byPasses });
+}
+
+function turnPasses() {
+  const choice = element("by-passes");
+  if (choice.disabled) return;
+  choice.checked = !choice.checked;
+  showPasses();
+}
+
 // ---- Keys.
 
 const currentAnchor = () => {
@@ -387,7 +463,7 @@ const KEYS = {
   Home: () => go(1), End: () => go(pairs),
   g: () => { element("number").focus(); element("number").select(); },
   " ": () => setPlaying(!playing),
-  f: fit, 0: fit, l: nextLayer,
+  f: fit, 0: fit, l: nextLayer, c: turnPasses,
   "+": () => zoomAtCurrent(1.5), "=": () => zoomAtCurrent(1.5), "-": () => zoomAtCurrent(1 / 1.5),
   "?": () => element("help").showModal(),
 };
@@ -550,6 +626,8 @@ function describe() {
 function describeFile() {
   const row = (id) => element(id).closest("tr");
   for (const id of ["total-back-steps", "total-jumps", "total-touches"]) row(id).hidden = true;
+  for (const kind of ["back-steps", "jumps", "whole"]) element(`length-${kind}`).hidden = true;
+  element("length-cuts").firstElementChild.textContent = "Pairs";
   const [, name, sign] = row("total-cuts").children;
   name.textContent = "Pairs";
   sign.textContent = "";
@@ -579,6 +657,8 @@ window.twill = Object.freeze({
 describe();
 makeEntries();
 makeLayers();
+makeLengths();
+makePasses();
 if (pairs) makeFacts(); else sayNothing();
 listenToButtons();
 listenToNumber();

@@ -31,6 +31,9 @@ const lengths = Float64Array.from(data.lengths);
 const points = path.length / 2;
 const pairs = Math.max(points - 1, 0);
 
+/** A pair's length as it counts in a quotation: in 1,024ths, rounded down. Times 1,024 nothing is rounded. */
+const countedLength = (pair) => Math.floor(lengths[pair - 1] * 1024);
+
 /** The first vertex of each contour. */
 const firsts = new Uint32Array(data.contours.length);
 data.contours.reduce((first, length, contour) => { firsts[contour] = first; return first + length; }, 0);
@@ -116,6 +119,52 @@ const layerDashes = (layer) => LAYER_DASHES[layer % 4];
 /** The colour in which a pair is drawn. */
 const colourOf = (pair) => (kindOf(pair) === CUT ? layerColour(pairLayers[pair]) : COLOURS[kindOf(pair)]);
 
+// ---- Passes: how often the path runs over each groove, in either direction. A groove is known by the
+// first pair over it; pairs between equal points are none.
+
+/** For each pair the first over the same groove; 0 where there is none. */
+const firstPasses = new Uint32Array(points);
+firstPasses.set(data.first_passes, points ? 1 : 0);
+/** For each pair how many have run over its groove by then. */
+const passRanks = new Uint32Array(points);
+/** For each groove's first pair how many run over it in all, and where its pairs begin in the list. */
+const passTotals = new Uint32Array(points), passPlaces = new Uint32Array(points);
+for (let i = 1; i < points; i++) if (firstPasses[i]) passRanks[i] = ++passTotals[firstPasses[i]];
+/** The pairs over each groove, one groove after the other. */
+const passPairs = (() => {
+  const list = new Uint32Array(pairs);
+  let place = 0;
+  for (let i = 1; i < points; i++) {
+    const first = firstPasses[i];
+    if (first === i) { passPlaces[i] = place; place += passTotals[i]; }
+    if (first) list[passPlaces[first] + passRanks[i] - 1] = i;
+  }
+  return list.subarray(0, place);
+})();
+const pairsOver = (first) => passPairs.subarray(passPlaces[first], passPlaces[first] + passTotals[first]);
+
+/** Grooves are in classes by their passes: 1, 2, 3 to 4, 5 to 8 and so on, and 33 or more. The more there
+ *  are, the darker and the wider a groove is drawn; widths are in pixels. */
+const PASS_COLOURS = ["#7f93a6", "#e06b2d", "#cc4778", "#9c179e", "#6a00a8", "#34057d", "#000000"];
+const PASS_WIDTHS = [1.4, 2, 2.6, 3.2, 3.8, 4.4, 5];
+const passClass = (passes) => Math.min(32 - Math.clz32(passes - 1), PASS_COLOURS.length - 1);
+
+/** The classes that occur, with the passes from and to which they go and how many grooves are in them. */
+const passCounts = (() => {
+  const last = PASS_COLOURS.length - 1;
+  const counts = PASS_COLOURS.map((_, at) => (
+    { at, from: at ? 2 ** (at - 1) + 1 : 1, to: at === last ? null : 2 ** at, grooves: 0 }));
+  for (let i = 1; i < points; i++) if (firstPasses[i] === i) counts[passClass(passTotals[i])].grooves++;
+  return counts.filter(({ grooves }) => grooves > 0);
+})();
+
+/** The passes over a pair's groove; null if it is none. */
+function passesOf(pair) {
+  const first = firstPasses[pair];
+  if (!first) return null;
+  return { now: passRanks[pair], all: passTotals[first], first, last: pairsOver(first).at(-1) };
+}
+
 /** What the panel shows of a pair; null if there is none of this number. */
 function told(number) {
   if (!(number >= 1 && number <= pairs)) return null;
@@ -128,6 +177,7 @@ function told(number) {
     fromVertex: locate(vertices[number - 1]), toVertex: locate(vertices[number]),
     reversed: kind === BACK_STEP ? reference + 1 : null, groove, grooveKind: KINDS[kindOf(groove)],
     contour: null, segment: null, sense: null, layer: layers ? pairLayers[number] : null,
+    counted: countedLength(number), passes: passesOf(number),
   };
   if (kindOf(groove) === CUT) {
     [result.contour, result.segment] = locate(referenceOf(groove));
@@ -140,7 +190,7 @@ function told(number) {
 // over it again. The items are pair numbers in order, so what a pair has drawn is a first part.
 
 const runs = new Float64Array(points);
-const items = (() => {
+const kindItems = (() => {
   const again = new Uint8Array(points);
   const kept = new Uint32Array(pairs);
   let count = 0;
@@ -155,6 +205,15 @@ const items = (() => {
   }
   return kept.slice(0, count);
 })();
+
+/** By passes a groove is drawn again whenever it comes to a further class. */
+let passItems = null;
+const itemsOf = ({ byPasses }) => {
+  if (!byPasses) return kindItems;
+  const isFurther = (pair) => passRanks[pair] === 1 || passClass(passRanks[pair]) > passClass(passRanks[pair] - 1);
+  passItems ??= passPairs.filter(isFurther).sort();
+  return passItems;
+};
 
 /** Whether a path point is on a contour that has no segment. */
 const isLone = (point) => data.contours[locate(vertices[point])[0]] === 1;

@@ -10,6 +10,22 @@ import random
 
 KINDS = ["start", "cut", "back-step", "jump", "touch"]
 JUMP, TOUCH = 3, 4
+# The page's colours for grooves by their passes: 1, 2, 3 to 4, 5 to 8 and so on, and 33 or more.
+PASS_COLOURS = ["#7f93a6", "#e06b2d", "#cc4778", "#9c179e", "#6a00a8", "#34057d", "#000000"]
+
+
+def pass_class(passes):
+    return min((passes - 1).bit_length(), len(PASS_COLOURS) - 1)
+
+
+def pass_range(number):
+    """The words for a class."""
+    if number == 0:
+        return "1 pass"
+    first, last = 2 ** (number - 1) + 1, 2 ** number
+    if number == len(PASS_COLOURS) - 1:
+        return f"{first} or more passes"
+    return f"{first} passes" if first == last else f"{first} to {last} passes"
 
 
 def waves(across, down, points):
@@ -94,6 +110,30 @@ class Expected:
         self.jumps = [i for i, (kind, _) in enumerate(marks) if kind == JUMP]
         self.touches = [i for i, (kind, _) in enumerate(marks) if kind == TOUCH]
         self.entries = sorted(self.jumps + self.touches)
+        self.count_passes()
+
+    def count_passes(self):
+        """For each pair the first over the same groove, or 0, and how many ran over it by then; for each
+        groove's first pair how many do in all, and the last."""
+        first_over = {}
+        self.first_passes, self.pass_ranks, self.pass_totals, self.pass_lasts = [0], [0], {}, {}
+        for pair in range(1, self.pairs + 1):
+            # A zero has no sign here, as equal numbers are equal keys.
+            ends = frozenset(self.path[pair - 1:pair + 1])
+            first = first_over.setdefault(ends, pair) if len(ends) == 2 else 0
+            if first:
+                self.pass_totals[first] = self.pass_totals.get(first, 0) + 1
+                self.pass_lasts[first] = pair
+            self.first_passes.append(first)
+            self.pass_ranks.append(self.pass_totals.get(first, 0))
+
+    def passes(self, pair):
+        """The two lines that tell of the passes over a pair's groove."""
+        first = self.first_passes[pair]
+        if not first:
+            return ["none", "the points are equal"]
+        told = f"over this groove, by pair {first:,} first, {self.pass_lasts[first]:,} last"
+        return [f"{self.pass_ranks[pair]:,} of {self.pass_totals[first]:,}", told]
 
     def held(self):
         """A contour ends with each vertex that no cut is the lower one of."""
@@ -155,6 +195,7 @@ class Expected:
             "from": [*self.path[pair - 1], self.place(self.vertex[pair - 1])],
             "to": [*self.path[pair], self.place(self.vertex[pair])],
             "what": self.what(pair),
+            "passes": self.passes(pair),
             "mark": "{} {}".format(*self.marks[pair]),
         }
 

@@ -3,9 +3,8 @@ use Rattle.std.proofs.Common.{◌≡◌, ℕ, suc, ◌-◌, List, sym, ◌∙◌
 use Rattle.std.proofs.lemmas.Bool.{eqb-true}
 use borrow.Author.Tests.{eq-eqb}
 use Rattle.rules.specs.HandedOver.{Contour, at}
-use Rattle.rules.specs.RetraceAndMarks.{landing_kind}
+use Rattle.rules.specs.RetraceAndMarks.{landing_kind, kind_at}
 use Rattle.rules.specs.Marks.{kind_of, reference_of}
-use Rattle.statement.specs.PathStatement.{kind_at}
 use Rattle.path_rules.specs.Tallied.{Tallied}
 use Rattle.path_rules.proofs.MarkKinds.{no_start_kind, Landing, landing_reference, landing_no_cut, landing_no_back, equal_by_kind}
 use Rattle.path_rules.proofs.ByKind.{keeps_start, no_start, keeps_cut, keeps_back, keeps_landing, no_landing, late_start, no_kind}

@@ -1,8 +1,7 @@
 -- The words after a path point, by the kind of its mark.
 use Rattle.std.proofs.Common.{◌≡◌, ℕ, ◌<◌, List, sym, ◌∙◌, ap, inl, inr, arith, length-set}
-use Rattle.rules.specs.RetraceAndMarks.{cut_kind, back_step_kind}
+use Rattle.rules.specs.RetraceAndMarks.{cut_kind, back_step_kind, kind_at, reference_at}
 use Rattle.rules.specs.Marks.{kind_of, reference_of}
-use Rattle.statement.specs.PathStatement.{kind_at, reference_at}
 use Rattle.path_rules.specs.Tallied.{Names}
 use Rattle.path_rules.proofs.MarkKinds.{landing_reference, landing_no_cut, landing_no_back}
 use Rattle.path_rules.proofs.ByKind.{no_kind}

@@ -42,7 +42,7 @@ fn ulp_exponent(q: u64, e: u64) -> u64
 }
 
 // (q + sticky / 2) × 2^e, in units of 2^-2276, rounded once.
-pub fn round_pack(q: u64, sticky: u64, e: u64) -> f64
+fn round_pack(q: u64, sticky: u64, e: u64) -> f64
     requires { (2 ^ 53 ≤ q) × (q < 2 ^ 63) × (sticky ≤ 1) × (e ≤ 5000) }
     ensures { result ≡ rounded_from q sticky e }
 {

@@ -12,8 +12,6 @@ pub mod Wide
 pub mod Pack
 pub mod SquareSum
 pub mod SquareRoot
-pub mod Newton
-pub mod Karatsuba
 pub mod Truncated
 pub mod Ceiling
 pub mod Finite

@@ -1,13 +1,13 @@
 -- The square root, rounded once: the digits of the root that rounding needs, by the sticky law, and the root of a zero. Assumes nothing.
 use Rattle.std.specs.Prelude.{◌≡◌, refl, Bool, true, false, T, ℤ, Float}
 use Rattle.std.proofs.Math.Path.{sym, ap, ap₂}
-use Rattle.std.proofs.Common.{◌∙◌, le_of_eq, lt_of_le_of_lt, zero-mul, mul-one, mul_assoc, mul-pos, mul-le-mul, mul-le-mul_right, mul-lt-mul_of_pos_right, mod-eq_of_lt, lit≤, pow_pos, pow_mono}
+use Rattle.std.proofs.Common.{◌∙◌, subst, le_of_eq, lt_of_le_of_lt, zero-mul, mul-one, mul_assoc, mul-pos, mul-le-mul, mul-le-mul_right, mul-lt-mul_of_pos_right, mod-eq_of_lt, lit≤, pow_pos, pow_mono}
 use Prim.Native.Nat.{ℕ, zero, suc, ◌+◌, ◌-◌, ◌*◌, ◌/◌, ◌%◌, ◌^◌, ◌≤◌, ◌<◌, compare}
 use Rattle.std.proofs.Math.Nat.{le_trans, lt_of_lt_of_le}
 use native.Mathlib.Omega.{arith}
 use Rattle.std.proofs.Math.Pow.{pow-add}
 use Rattle.std.specs.Float.{nan, inf, fin, binary64}
-use Rattle.std.specs.Float.Ieee.{up, down, round}
+use Rattle.std.specs.Float.Ieee.{up, down}
 use Rattle.std.specs.Float.Ieee.Fits.{up_pos, down_pos}
 use Rattle.rules.specs.Distances.{round_root, sqrt}
 use Rattle.rounding.specs.StickyBit.{sticky_bit, factor_zero}
@@ -39,9 +39,6 @@ radicand_range a x h l = (le_trans (doubled_ge a x h) (le_of_eq (sym (doubled a 
 
 -- ---- the root
 
-pub is_root : (X r rest : ℕ) → r * r + rest ≡ X → rest ≤ 2 * r → IsRoot X r
-is_root X r rest h l = omega arith
-
 sqrt_opened : (m : ℕ) (e : ℤ) → sqrt binary64 (fin false (suc m) e) ≡ round_root binary64 (suc m * up e) (down e)
 unfolding sqrt
 sqrt_opened m e = refl
@@ -51,13 +48,9 @@ unfolding sqrt
 sqrt_zero s e = refl
 
 -- r is the whole part of the root of the radicand with 48 digits more, a * 2 ^ x being the number in units of 2^-1138
-module _ (a x r rest : ℕ) (A : 2 ^ 60 ≤ a) (B : a < 2 ^ 61) (X : r * r + rest ≡ a * 2 ^ (x % 2) % 18446744073709551616 * 2 ^ 48) (L : rest ≤ 2 * r) where
+module _ (a x r : ℕ) (A : 2 ^ 60 ≤ a) (B : a < 2 ^ 61) (I : IsRoot (a * 2 ^ (x % 2) % 18446744073709551616 * 2 ^ 48) r) where
   n : ℕ
   n = a * 2 ^ (x % 2)
-
-  sq : r * r + rest ≡ n * 2 ^ 48
-  unfolding n
-  sq = X ∙ ap (λ (z : ℕ). z * 2 ^ 48) (doubled a x B)
 
   low : 2 ^ 54 * 2 ^ 54 ≤ n * 2 ^ 48
   unfolding n
@@ -68,13 +61,11 @@ module _ (a x r rest : ℕ) (A : 2 ^ 60 ≤ a) (B : a < 2 ^ 61) (X : r * r + res
   high = lt_of_lt_of_le (mul-lt-mul_of_pos_right (doubled_lt a x B) (pow_pos 48)) (lit≤ {m = 2 ^ 62 * 2 ^ 48} {n = 2 ^ 55 * 2 ^ 55} tt)
 
   isr : IsRoot (n * 2 ^ 48) r
-  isr = is_root (n * 2 ^ 48) r rest sq L
+  unfolding n
+  isr = subst (λ (z : ℕ). IsRoot (z * 2 ^ 48) r) (doubled a x B) I
 
-  pub root_range : (2 ^ 53 ≤ r) × (r < 2 ^ 63)
-  root_range =
-      let p = root_ge (n * 2 ^ 48) r (2 ^ 54) isr low in
-      let q = root_lt (n * 2 ^ 48) r (2 ^ 55) isr high in
-      (omega arith, omega arith)
+  pub root_range : (2 ^ 54 ≤ r) × (r < 2 ^ 55)
+  root_range = (root_ge (n * 2 ^ 48) r (2 ^ 54) isr low, root_lt (n * 2 ^ 48) r (2 ^ 55) isr high)
 
   scaled : (U de : ℕ) → U * 2 ^ 1138 ≡ a * 2 ^ x * de → U * (2 ^ 2276 * 2 ^ 2276) ≡ n * 2 ^ 48 * (2 ^ (x / 2 + 1683) * 2 ^ (x / 2 + 1683)) * de
   unfolding n
@@ -94,19 +85,17 @@ module _ (a x r rest : ℕ) (A : 2 ^ 60 ≤ a) (B : a < 2 ^ 61) (X : r * r + res
       back : (a o k s d : ℕ) → a * (o * k * s) * d ≡ a * o * k * s * d
       back a o k s d = omega arith
 
-  rounds_root : (m : ℕ) (e : ℤ) → suc m * up e * 2 ^ 1138 ≡ a * 2 ^ x * down e → round_root binary64 (suc m * up e) (down e) ≡ rounded_from r (sticky_bit rest) (x / 2 + 1683)
+  rounds_root : (m : ℕ) (e : ℤ) → suc m * up e * 2 ^ 1138 ≡ a * 2 ^ x * down e → round_root binary64 (suc m * up e) (down e) ≡ rounded_from r (sticky_bit (a * 2 ^ (x % 2) % 18446744073709551616 * 2 ^ 48 - r * r)) (x / 2 + 1683)
+  unfolding n
   rounds_root m e h =
       let i = x / 2 + 1683 in
       let R = n * 2 ^ 48 in
       sticky binary64 false (λ (k : ℕ). compare R (k * k)) i 2276 (root_with_sticky R r) (round_root binary64 (suc m * up e) (down e))
       (root_rounds binary64 (suc m * up e) (down e) R i 2276 (down_pos e) (scaled (suc m * up e) (down e) h) (le_trans (lit≤ {m = 2 ^ 53 * 2 ^ 53} {n = 2 ^ 54 * 2 ^ 54} tt) low)) (λ (k : ℕ). root_order R r k isr)
-      ∙ ap (λ (z : ℕ). round binary64 false ((2 * r + sticky_bit z) * 2 ^ i) (2 * 2 ^ 2276)) (rest_is R r rest sq)
-    where
-      rest_is : (X r rest : ℕ) → r * r + rest ≡ X → X - r * r ≡ rest
-      rest_is X r rest h = omega arith
+      ∙ ap (λ (z : ℕ). rounded_from r (sticky_bit (z * 2 ^ 48 - r * r)) i) (sym (doubled a x B))
 
   pub root_nonzero : (v : Float) (sa ea : ℕ) → T (non_negative v) → IsMagnitude v sa ea → (sa ≡ 0 → ⊥) → Normalized sa ea a x
-      → rounded_from r (sticky_bit rest) (x / 2 + 1683) ≡ sqrt binary64 v
+      → rounded_from r (sticky_bit (a * 2 ^ (x % 2) % 18446744073709551616 * 2 ^ 48 - r * r)) (x / 2 + 1683) ≡ sqrt binary64 v
   root_nonzero nan sa ea g M nz D = absurd g
   root_nonzero (inf t) sa ea g M nz D = absurd g
   root_nonzero (fin true m e) sa ea g M nz D = absurd g

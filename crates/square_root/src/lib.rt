@@ -1,82 +1,79 @@
 // The square root, rounded once.
 #![tactic(auto)]
 
-ghost use Rattle.std.specs.Prelude.{◌≡◌, ◌+◌, ◌*◌, ◌^◌, ◌≤◌, ◌<◌, T};
+ghost use Rattle.std.specs.Prelude.{◌≡◌, ◌+◌, ◌-◌, ◌*◌, ◌^◌, ◌≤◌, ◌<◌, T};
 ghost use Rattle.std.specs.Float.{binary64};
 ghost use Rattle.rules.specs.Distances.{sqrt};
+ghost use Rattle.rounding.specs.FloorRoot.{IsRoot};
 ghost use Rattle.rounding.specs.Magnitude.{non_negative};
-ghost use Rattle.rounding.specs.Karatsuba.{Extends};
+ghost use Rattle.square_root.specs.Estimate.{Estimates};
 
+use first_roots::first_root;
 use magnitude::{magnitude_of, normalized};
-use pack::round_pack;
-use wide::sticky_bit;
 
-// A whole number's root, cut to a whole number, and what is left of it.
+// Twice 2^47, which above × reciprocal is about.
+const TWICE: u64 = 1 << 48;
+
+// Of a whole number n: a number just above its root, in units of 2^7, and its inverse, 2^45 / above.
 #[derive(Clone, Copy)]
-struct Root {
-    root: u64,
-    remainder: u64,
+struct Estimate {
+    above: u64,
+    inverse: u64,
 }
 
-// One step of Newton's iteration: whatever r was, what comes is at least the root.
-fn newton_step(n: u64, r: u64) -> u64
-    requires { (2 ^ 30 ≤ n) × (n < 2 ^ 32) × (0 < r) × (r < 2 ^ 32) }
-    ensures { (n < (result + 1) * (result + 1)) × (0 < result) × (result < 2 ^ 32) }
-{
-    (r + n / r) / 2
-}
-
-// A straight line gives the first guess; after two steps it is the root, or is led down to it. Not the library's `isqrt`: the documents ask that the root is
-// the program's own work.
-fn root_of_32_bits(n: u64) -> Root
-    requires { (2 ^ 30 ≤ n) × (n < 2 ^ 32) }
-    ensures { (result.root * result.root + result.remainder ≡ n) × (result.remainder ≤ 2 * result.root) }
-{
-    let mut x = newton_step(n, newton_step(n, n / 98304 + 23211));
-    // It counts down to the root, and no index.
-    while n < x * x {
-        x -= 1;
-    }
-    Root {
-        root: x,
-        remainder: n - x * x,
-    }
-}
-
-// The root after two more digits, hi and lo, to the base b: Zimmermann's step, by one division.
-fn karatsuba_step(r: Root, hi: u64, lo: u64, b: u64) -> Root
-    requires { Extends r.root r.remainder hi lo b }
-    ensures { (result.root * result.root + result.remainder ≡ (r.root * r.root + r.remainder) * (b * b) + hi * b + lo) × (result.remainder ≤ 2 * result.root) }
-{
-    let t = r.remainder * b + hi;
-    let d = t / (2 * r.root);
-    let v = t % (2 * r.root) * b + lo;
-    let q = d * d;
-    let m = r.root * b + d;
-    if q <= v {
-        Root {
-            root: m,
-            remainder: v - q,
-        }
-    } else {
-        Root {
-            root: m - 1,
-            remainder: v + (2 * m - 1) - q,
-        }
-    }
-}
-
-// The root of n with 48 binary digits more, all zero.
-fn wide_root(n: u64) -> Root
+// One step of Newton's iteration for each, from 16 more than the first root and from the reciprocal of that. The roots that have the same first root reach up
+// to 33 of its units above it. The 3 makes up for what the product and the reciprocal lack, being cut to whole numbers: so `above` is above the root.
+fn first_estimate(n: u64) -> Estimate
     requires { (2 ^ 60 ≤ n) × (n < 2 ^ 62) }
-    ensures { (result.root * result.root + result.remainder ≡ n * 2 ^ 48) × (result.remainder ≤ 2 * result.root) }
+    ensures { Estimates n result.above result.inverse }
 {
-    let s = root_of_32_bits(n / 1073741824);
-    let m = karatsuba_step(s, n / 32768 % 32768, n % 32768, 32768);
-    karatsuba_step(m, 0, 0, 16777216)
+    let first = first_root(n);
+    let above = 256 * (first.root + 16) + (((n >> 30) * first.reciprocal) >> 32) + 3;
+    let rest = (TWICE - above * first.reciprocal) >> 16;
+    Estimate {
+        above,
+        inverse: (first.reciprocal * rest) >> 33,
+    }
 }
 
-// Rust's x.sqrt(), over bits, as the documents ask. The radicand takes in the factor 2 of an odd exponent; 1683 is 2276 less half of 1138 and half of 48.
+// The next step, for the root alone, from 8 less than the estimate. It multiplies by the inverse of a number above the root, which gives no more than to divide
+// by twice the root would: what comes is the root's whole part or one less.
+fn root_of_39_digits(n: u64, e: Estimate) -> u64
+    requires { (n < 2 ^ 62) × Estimates n e.above e.inverse }
+    ensures below { result * result ≤ n * 2 ^ 16 }
+    ensures near { n * 2 ^ 16 < (result + 2) * (result + 2) }
+    ensures least { (e.above - 8) * 2 ^ 15 ≤ result }
+{
+    let x = e.above - 8;
+    let rest = n - 16384 * x * x;
+    32768 * x + ((rest * e.inverse) >> 45)
+}
+
+// The last step, likewise. n × 2^16 and the square of x need not fit a u64, but their difference does: both are taken modulo 2^64.
+fn root_of_55_digits(n: u64, e: Estimate) -> u64
+    requires { (n < 2 ^ 62) × Estimates n e.above e.inverse }
+    ensures below { result * result ≤ n * 2 ^ 48 }
+    ensures near { n * 2 ^ 48 < (result + 2) * (result + 2) }
+{
+    let x = root_of_39_digits(n, e);
+    let rest = (n << 16).wrapping_sub(x.wrapping_mul(x));
+    65536 * x + ((rest * e.inverse) >> 45)
+}
+
+// The root of n with 48 binary digits more, all zero, without the library's `isqrt`: the documents ask that the root is the program's own work. The difference
+// is taken as in the last step; if it is more than 2 x, the root is x + 1.
+fn wide_root(n: u64) -> u64
+    requires { (2 ^ 60 ≤ n) × (n < 2 ^ 62) }
+    ensures { IsRoot (n * 2 ^ 48) result }
+{
+    let x = root_of_55_digits(n, first_estimate(n));
+    let rest = (n << 48).wrapping_sub(x.wrapping_mul(x));
+    if rest > 2 * x { x + 1 } else { x }
+}
+
+// Rust's x.sqrt(), over bits, as the documents ask. The radicand takes in the factor 2 of an odd exponent. The root is never half way between two floats.
+// It is in units of 2^(b.exponent / 2 - 593), 593 being 1138 / 2 + 48 / 2; a quarter of it, rounded, is the significand, in units of 2^(b.exponent / 2 + 484 - 1075),
+// and its leading digit adds 1 to the pattern's field of the exponent.
 pub fn square_root(x: f64) -> f64
     requires { T (non_negative x) }
     ensures { result ≡ sqrt binary64 x }
@@ -86,6 +83,6 @@ pub fn square_root(x: f64) -> f64
         return x;
     }
     let b = normalized(a);
-    let s = wide_root(b.significand << (b.exponent % 2));
-    round_pack(s.root, sticky_bit(s.remainder), b.exponent / 2 + 1683)
+    let root = wide_root(b.significand << (b.exponent % 2));
+    f64::from_bits((b.exponent / 2 + 483) * 4503599627370496 + (root + 2) / 4)
 }

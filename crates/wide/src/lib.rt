@@ -1,4 +1,4 @@
-// Numbers of 128 bits as two halves, and no u128: the documents ask that the sum and the root are the program's own work over bits.
+// Numbers of 128 bits as two halves, and no u128: the documents ask that the sum is the program's own work over bits.
 #![tactic(auto)]
 
 ghost use Rattle.std.specs.Prelude.{◌≡◌, ◌+◌, ◌*◌, ◌/◌, ◌%◌, ◌^◌, ◌<◌, ◌≤◌};

@@ -84,6 +84,38 @@ pub fn nearly_halfway_root(random: &mut Random) -> f64 {
     }
 }
 
+/// The least and the greatest float from 2^e up to 2^(e + 1) whose first digits are k.
+///
+/// The first digits of x are the whole part of x × 4^i, for the i with which that is from
+/// 256 up to 1,024. So k is from 256 to 511 where e is even, from 512 to 1,023 where it is
+/// odd. e is at least -1066: below, not every k has a float.
+pub fn ends(k: i64, e: i64) -> [f64; 2] {
+    let odd = e.rem_euclid(2);
+    assert!((256 << odd..512 << odd).contains(&k) && e >= -1066);
+    let unit = e - odd - 8;
+    [scaled(k as f64, unit), nudged(scaled((k + 1) as f64, unit), -1)]
+}
+
+/// The least or the greatest float of an exponent and some first digits, or a few steps off.
+pub fn near_end(random: &mut Random, e: i64) -> f64 {
+    let odd = e.rem_euclid(2);
+    let k = random.between(256 << odd, (512 << odd) - 1);
+    let end = random.pick(&ends(k, e));
+    // Above MAX are infinity and the NaNs: min turns both into MAX.
+    nudged(end, random.between(-4, 4)).min(f64::MAX)
+}
+
+/// The square of a whole number, times a power of four: its root is a float too.
+pub fn exact_square(random: &mut Random) -> f64 {
+    // The greatest whole number whose square is below 2^53.
+    let most = 94_906_265;
+    let short = (random.bits() >> random.between(38, 63)) + 1;
+    let root = if random.one_in(2) { short } else { random.below(most) + 1 };
+    let square = root * root;
+    let digits = 64 - i64::from(square.leading_zeros());
+    scaled(square as f64, 2 * random.between(-537, (1024 - digits) / 2))
+}
+
 /// An odd number whose square is c modulo 2^digits. c is 1 modulo 8.
 fn root_modulo(c: i64, digits: u32) -> u64 {
     let mut root = 1_u64;

@@ -1,0 +1,2 @@
+pub mod FirstRoots
+pub mod Near

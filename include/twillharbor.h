@@ -21,37 +21,43 @@
  *   1   too many contours   M above 4,096
  *   2   too many points     the lengths sum to more than 65,536; the calls of plate files:
  *                           the path has more than 1,048,576 points
- *   3   miscounted          point slice length is not twice that sum; the check call: path
- *                           slice length is odd, or marks slice is not as long; the writer
- *                           of plate files: path slice length is odd
+ *   3   miscounted          point slice length is not twice that sum; the check call and the
+ *                           contours call: path slice length is odd, or marks slice is not
+ *                           as long; the writer of plate files: path slice length is odd
  *   13  bad layer           layer slice length is not M, or a layer is above 15
  *   4   off the plate       a coordinate is NaN, infinite or of magnitude above 1,000,000
  *                           (the distance call: 2,147,483,648): of the parked point or,
- *                           after that, of the points; the writer of plate files: of the
- *                           path
+ *                           after that, of the points; the contours call and the writer of
+ *                           plate files: of the path
  *   5   work short          u32 work below C + 4P + 8M + 16,384 or f64 work below M
  *                           (retrace); u32 work below M (order, straight), below P + M
- *                           (check)
- *   6   full                the result has more than C points or order entries; the calls
- *                           of plate files: it has no room in the slice lent for it
+ *                           (check), below four for each path point (contours)
+ *   6   full                the result has more than C points or order entries; the contours
+ *                           call and the calls of plate files: it has no room in the slices
+ *                           lent for it
  *   7   blank               the start call only: no contour holds a point
  *   8   block damaged       the reader of plate files only: a check, number, zero byte,
  *                           unused place or count is wrong, or a coordinate off the plate
  *   9   file ends early,    the reader of plate files only: fewer bytes are left than a
  *       or goes on after    block has, or a block with fewer than 31 points does not end
  *       its closing block   the file
+ *   10  marks inconsistent  the contours call only: a path point breaks a rule of marks
+ *   11  vertex missing      the contours call only: a vertex below the highest landed on is
+ *                           not landed on
  *   12  path does not       the check call only: a path point breaks a rule, or a segment
  *       draw the plate      is not cut, or a contour not entered
  *
  * They are tested from the top of this table to its end, 13 between 3 and 4, and the check
- * call's 3 of path and marks after 4; the first that holds wins. The reader of plate files
- * tests 8, 2 and 9 block by block, and 6 after all else. The place is, for 13, M where the
- * slice's length is wrong, else the number of the first contour whose layer is above 15; for 4
- * zero (home_x) or one (home_y) where the parked point is off the plate, else the first such
- * coordinate's place in the slice; for 5 zero (u32) or one (f64, u32 being enough); for 6 C, but
- * 0 for the calls of plate files; for 8 the block; for 9 the file's length where it ends early,
- * else the byte at which its closing block ends; for 12 the first path point that breaks a rule,
- * or else the number of path points; otherwise 0. A call says which of these it can give.
+ * call's 3 of path and marks after 4; the first that holds wins. The contours call tests 6 after
+ * all else. So does the reader of plate files, which tests 8, 2 and 9 block by block. The place
+ * is, for 13, M where the slice's length is wrong, else the number of the first contour whose
+ * layer is above 15; for 4 zero (home_x) or one (home_y) where the parked point is off the plate,
+ * else the first such coordinate's place in the slice; for 5 zero (u32) or one (f64, u32 being
+ * enough); for 6 C, but 0 for the contours call and the calls of plate files; for 8 the block; for
+ * 9 the file's length where it ends early, else the byte at which its closing block ends; for 10
+ * the first path point that breaks a rule; for 11 the lowest vertex that is missing; for 12 the
+ * first path point that breaks a rule, or else the number of path points; otherwise 0. A call says
+ * which of these it can give.
  *
  * Slices. A slice is two arguments: the pointer to its first element, then the number
  * of its elements, a size_t. The pointer is aligned for its elements and not NULL, also
@@ -79,6 +85,8 @@ enum twillharbor_refusal {
     TWILLHARBOR_BLANK = 7,
     TWILLHARBOR_BLOCK_DAMAGED = 8,
     TWILLHARBOR_WRONG_END = 9,
+    TWILLHARBOR_MARKS_INCONSISTENT = 10,
+    TWILLHARBOR_VERTEX_MISSING = 11,
     TWILLHARBOR_PATH_DOES_NOT_DRAW = 12,
     TWILLHARBOR_BAD_LAYER = 13
 };
@@ -361,6 +369,56 @@ struct twillharbor_check_path_result twillharbor_check_path(
     const uint32_t *lengths, size_t lengths_length,
     const double *path, size_t path_length,
     const uint32_t *marks, size_t marks_length,
+    uint32_t *work, size_t work_length);
+
+struct twillharbor_contours_result {
+    uint32_t number;
+    uint64_t place;
+    uint32_t points, contours;
+};
+
+/*
+ * The contours that a path with marks draws, from wherever it comes. Of each path that the retrace
+ * call finishes they are the plate's contours that hold a point, in their order, bit for bit.
+ *
+ * path      each path point's horizontal, then its vertical coordinate
+ * marks     two numbers a path point, its kind and its reference, as retrace writes them
+ * points    holds afterwards each point's horizontal, then its vertical coordinate, each contour's
+ *           points following the last's
+ * lengths   holds afterwards the contours' numbers of points, of which none is 0
+ * work      at least four numbers for each path point
+ *
+ * `points` and `contours` are how many there are; beyond them points and lengths slices are
+ * unaltered. There are at most as many of each as there are path points, and at most 65,536.
+ *
+ * A path point has a vertex by its mark: that of a start, a jump and a touch is the one named; that
+ * of a cut r is the one of r and r + 1 that the path point before it has not; and that of a
+ * back-step k is path point k's. All but back-steps land on their vertex. The rules of marks:
+ *
+ *   - Kinds are 0 to 4, and no vertex is above 65,535.
+ *   - The first mark, and no other, is a start.
+ *   - A start, a jump, a touch and a cut land on a vertex not landed on before.
+ *   - The path point before a jump differs as numbers from the jump's own, and the one before a
+ *     touch is equal: there 0 and -0 are equal.
+ *   - The path point before a cut r has vertex r or r + 1.
+ *   - The path point before a back-step k has the vertex of path point k + 1, and both path points
+ *     k and k + 1 are earlier than the back-step's own, which has the bits of path point k.
+ *
+ * Vertex v of the picture has the coordinates of the path point that lands on it, and v and v + 1
+ * are of one contour exactly if segment v is cut. A path of no points gives no contours.
+ *
+ * Refusals 3 where the path slice's length is odd or the marks slice is not as long, 4, and 5. Then
+ * 10: its place is the first path point that breaks a rule. Then 11 where a vertex below the
+ * highest landed on is not landed on: its place is the lowest such vertex. Then 6 with place 0
+ * where the points slice has not two numbers for each point, or the lengths slice not one for each
+ * contour. The call only reads path and marks, and no refusal alters points or lengths. After a
+ * result, 6, 10 and 11 the work slice has free content; the other refusals alter nothing.
+ */
+struct twillharbor_contours_result twillharbor_contours(
+    const double *path, size_t path_length,
+    const uint32_t *marks, size_t marks_length,
+    double *points, size_t points_length,
+    uint32_t *lengths, size_t lengths_length,
     uint32_t *work, size_t work_length);
 
 /*

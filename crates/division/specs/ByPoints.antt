@@ -41,11 +41,11 @@ vertex_first (k ∷ r ∷ ms) h e = after_old (named [] k r ∷ []) ms 0 (omega 
 
 -- ---- kinds that enter
 
-start_enters : (kind : ℕ) → kind ≡ start_kind → T (enters kind)
+pub start_enters : (kind : ℕ) → kind ≡ start_kind → T (enters kind)
 unfolding enters
 start_enters kind e = rw e tt
 
-landing_enters : (a b : Point) (kind : ℕ) → JumpOrTouch a b kind → T (enters kind)
+pub landing_enters : (a b : Point) (kind : ℕ) → JumpOrTouch a b kind → T (enters kind)
 unfolding enters
 landing_enters a b kind (inl e) = rw e.0 tt
 landing_enters a b kind (inr e) = rw e.0 tt
@@ -77,7 +77,7 @@ module _ (p : Plate) (c : Totals) (path : List Float) (ms : List ℕ) (d : Divid
   room i l = omega (arith, d.whole.1)
 
   -- a mark that enters names the vertex of its path point
-  entry_vertex : (i : ℕ) → i < n → T (enters (kind_at ms i)) → v i ≡ reference_at ms i
+  pub entry_vertex : (i : ℕ) → i < n → T (enters (kind_at ms i)) → v i ≡ reference_at ms i
   entry_vertex zero l t = vertex_first ms (room 0 l) d.start.0
   entry_vertex (suc k) l t = (entry_lands cs point itself v (NotEntered v k) k _ _ (d.pairs k l).0 t).landing
 

@@ -22,7 +22,7 @@ module _ (cs : List Contour) (rising : Rising cs) (xs : List Float) (n : ℕ) (p
         pairs = λ k l. pair_names cs (at path) (at xs) (at path) (Unentered ms (suc k)) k _ _ (d.rules (suc k) l).0;
       }
 
-  entries_are : count_marks entering ms ≡ length cs
+  pub entries_are : count_marks entering ms ≡ length cs
   entries_are =
       omega (
         arith,

@@ -107,6 +107,22 @@ module _ (test : ℕ → ℕ → Bool) where
       let before = count_none ms i (omega arith) (λ j l. none j (omega arith)) in
       omega (arith, before, count_step ms i h, pick_zero (test (kind_at ms i) (reference_at ms i)) (none i (omega arith)))
 
+  -- where some pass, there is one
+  pub count_some : (ms : List ℕ) (i : ℕ) → 2 * i ≤ length ms → 1 ≤ count_marks test (marks_before i ms) →
+      (j : ℕ) × (j < i) × T (test (kind_at ms j) (reference_at ms j))
+  unfolding count_marks pick
+  count_some ms zero h some = absurd (omega (arith, some))
+  count_some ms (suc i) h some =
+      go (test (kind_at ms i) (reference_at ms i)) refl (omega (arith, some, count_step ms i h)) (λ l. count_some ms i (omega arith) l)
+    where
+      Some : ℕ → Type 0
+      Some i = (j : ℕ) × (j < i) × T (test (kind_at ms j) (reference_at ms j))
+
+      go : (b : Bool) → test (kind_at ms i) (reference_at ms i) ≡ b → 1 ≤ count_marks test (marks_before i ms) + pick b 1 0 →
+          (1 ≤ count_marks test (marks_before i ms) → Some i) → Some (suc i)
+      go true e l before = (i, omega arith, rw e tt)
+      go false e l before = let (j, k, t) = before (omega (arith, l)) in (j, omega (arith, k), t)
+
   -- where each that passes is the first, there is at most one
   pub count_first : (ms : List ℕ) (i : ℕ) → 2 * i ≤ length ms →
       ((j : ℕ) → j < i → T (test (kind_at ms j) (reference_at ms j)) → count_marks test (marks_before j ms) ≡ 0) → count_marks test (marks_before i ms) ≤ 1

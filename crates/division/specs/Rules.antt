@@ -64,7 +64,7 @@ none_failing test k n h =
 
 -- ---- the kind of a landing
 
-kind_is : (a b : Point) (kind : ℕ) → JumpOrTouch a b kind → kind ≡ landing_kind a b
+pub kind_is : (a b : Point) (kind : ℕ) → JumpOrTouch a b kind → kind ≡ landing_kind a b
 unfolding landing_kind pick
 kind_is a b kind j = go (coincide a b) j
   where

@@ -23,7 +23,7 @@ use Rattle.division.specs.Deciding.{no_entry}
 
 -- ---- sums
 
-sum_add : {A : Type 0} (f g : A → ℕ) (xs : List A) → sum (map (λ x. f x + g x) xs) ≡ sum (map f xs) + sum (map g xs)
+pub sum_add : {A : Type 0} (f g : A → ℕ) (xs : List A) → sum (map (λ x. f x + g x) xs) ≡ sum (map f xs) + sum (map g xs)
 unfolding sum
 sum_add f g [] = refl
 sum_add f g (x ∷ xs) = omega (arith, sum_add f g xs)
@@ -130,11 +130,11 @@ pair_names cs x u v Fresh k kind r (inr (inr (inr j, f))) = let s = f.fresh in i
 abbrev pub entering : ℕ → ℕ → Bool
 entering kind r = enters kind
 
-abbrev of_kind : ℕ → ℕ → ℕ → Bool
+abbrev pub of_kind : ℕ → ℕ → ℕ → Bool
 of_kind a kind r = eqb kind a
 
 -- cuts segment v, and cuts a segment of c
-abbrev cutting : ℕ → ℕ → ℕ → Bool
+abbrev pub cutting : ℕ → ℕ → ℕ → Bool
 cutting v kind r = eqb kind cut_kind && eqb r v
 
 abbrev in_segments : Contour → ℕ → Bool
@@ -147,7 +147,7 @@ says_in : (c : Contour) (r : ℕ) → Says (in_segments c r) ((c.first ≤ r) ×
 says_in c r = says_and _ _ _ _ (says_leb c.first r) (says_ltb r (c.first + c.last))
 
 -- a segment of c is one of c's numbers, once
-run_one : (b : Bool) (a n r : ℕ) → sum (map (λ v. pick (b && eqb r v) 1 0) (up_from a n)) ≡ pick (b && (leb a r && ltb r (a + n))) 1 0
+pub run_one : (b : Bool) (a n r : ℕ) → sum (map (λ v. pick (b && eqb r v) 1 0) (up_from a n)) ≡ pick (b && (leb a r && ltb r (a + n))) 1 0
 unfolding pick
 run_one false a n r = sum_zeros _ (up_from a n) (all_of _ (λ v. refl) (up_from a n))
 run_one true a n r = go (dec_le a r) (dec_le (suc r) (a + n))

@@ -14,7 +14,7 @@ ghost use Rattle.path_rules.specs.Parts.{words_of, TalliedBy, SameWords};
 mod work;
 
 use bits::same_point;
-use mark_kinds::landing_mark;
+use mark_kinds::{landing_mark, mark_at};
 use rules::{Mark, PathPlace, Point, Vertex, point_at, point_in};
 pub use work::{ENTERED, UNENTERED, Words};
 
@@ -26,16 +26,6 @@ pub struct MarkedPath<'a, 'w> {
     pub marks: &'a [u32],
     pub words: Words<'w>,
     ghost vertices: { 2 * length words.vertices.now ≤ length points.now },
-}
-
-// The mark of path point i, where it has a kind.
-#[tactic(auto, unfolding(rules::specs::RetraceAndMarks::kind_at, rules::specs::RetraceAndMarks::reference_at))]
-fn mark_at(marks: &[u32], i: usize) -> Option<Mark>
-    requires { 2 * i + 1 < length marks.now }
-    ensures known { IsSome result ↔ (kind_at marks.now i ≤ 4) }
-    ensures numbers { IfSome result (λ m. (kind_of m ≡ kind_at marks.now i) × (reference_of m ≡ reference_at marks.now i)) }
-{
-    Mark::from_numbers(marks[2 * i], marks[2 * i + 1])
 }
 
 // Whether path points k and k + 1 have the bits of a and b.

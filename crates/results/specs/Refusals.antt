@@ -5,7 +5,12 @@ use Rattle.rules.specs.HandedOver.{Answer, gives, refuses, number_of, refusal, a
 use Rattle.rules.specs.declared.Refusal.{Refusal}
 use Rattle.rules.specs.declared.Refusal.TheVariants.{TooManyContours, TooManyPoints, Miscounted, OffThePlate, WorkShort, Full, Blank, BlockDamaged, WrongEnd, NotDrawn, BadLayer}
 use Rattle.path.specs.Rows.{Other}
-use Rattle.results.specs.Results.{check_result}
+use Rattle.contour_recovery.specs.ContourRecovery.{recovery_answer}
+use Rattle.rules.specs.declared.Recovered.{Recovered}
+use Rattle.rules.specs.declared.RecoveryRefusal.{RecoveryRefusal}
+use Rattle.rules.specs.declared.RecoveryRefusal.TheVariants.{PathMiscounted, PathOffThePlate, PathWorkShort, MarksInconsistent, VertexMissing, NoRoom}
+use Rattle.results.specs.Results.{check_result, contours_result}
+use Rattle.results.specs.declared.ContoursResult.{ContoursResult}
 use Rattle.results.specs.declared.CheckResult.{CheckResult}
 
 -- no refusal has the number of a result
@@ -52,3 +57,19 @@ pub told_place : (a : Result (Unit {0}) Refusal) (n : ℕ) → 1 ≤ n → numbe
 unfolding check_result answer_of refusal
 told_place (Ok a) n h z = absurd (omega arith)
 told_place (Err r) n h z = rw z
+
+-- ---- an answer of recovered contours, as its struct tells it
+
+abbrev contours_number : ContoursResult → ℕ
+contours_number r = r.number
+
+pub told_recovered : (a : Result Recovered RecoveryRefusal) (r : ContoursResult) → r ≡ contours_result (recovery_answer a) → r.number ≡ 0 →
+    recovery_answer a ≡ gives (record { points = r.points; contours = r.contours })
+unfolding contours_result recovery_answer
+told_recovered (Ok x) r e z = rw e refl
+told_recovered (Err PathMiscounted) r e z = absurd (omega (arith, sym (ap contours_number e) ∙ z))
+told_recovered (Err (PathOffThePlate place)) r e z = absurd (omega (arith, sym (ap contours_number e) ∙ z))
+told_recovered (Err PathWorkShort) r e z = absurd (omega (arith, sym (ap contours_number e) ∙ z))
+told_recovered (Err NoRoom) r e z = absurd (omega (arith, sym (ap contours_number e) ∙ z))
+told_recovered (Err (MarksInconsistent place)) r e z = absurd (omega (arith, sym (ap contours_number e) ∙ z))
+told_recovered (Err (VertexMissing place)) r e z = absurd (omega (arith, sym (ap contours_number e) ∙ z))

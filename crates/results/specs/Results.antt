@@ -4,6 +4,7 @@ use Rattle.std.specs.Float.{fin}
 use Rattle.rules.specs.Tools.{pick}
 use Rattle.rules.specs.HandedOver.{Answer, gives, refuses}
 use Rattle.rules.specs.declared.Totals.{Totals}
+use Rattle.rules.specs.declared.Recovered.{Recovered}
 use Rattle.results.specs.declared.DistanceResult.{DistanceResult}
 use Rattle.results.specs.declared.StartResult.{StartResult}
 use Rattle.results.specs.declared.OrderResult.{OrderResult}
@@ -12,6 +13,7 @@ use Rattle.results.specs.declared.RetraceResult.{RetraceResult}
 use Rattle.results.specs.declared.CheckResult.{CheckResult}
 use Rattle.results.specs.declared.WriteFileResult.{WriteFileResult}
 use Rattle.results.specs.declared.ReadFileResult.{ReadFileResult}
+use Rattle.results.specs.declared.ContoursResult.{ContoursResult}
 
 -- the number and place of an answer, and what it carries: of a refusal, `zeros`
 unfoldable pub told : {A : Type 0} → Answer A → A → ℕ × ℕ × A
@@ -91,3 +93,7 @@ write_result (refuses n k) = record { number = n; place = k; bytes = 0 }
 unfoldable pub read_result : Answer ℕ → ReadFileResult
 read_result (gives m) = record { number = 0; place = 0; points = m }
 read_result (refuses n k) = record { number = n; place = k; points = 0 }
+
+unfoldable pub contours_result : Answer Recovered → ContoursResult
+contours_result (gives r) = record { number = 0; place = 0; points = r.points; contours = r.contours }
+contours_result (refuses n k) = record { number = n; place = k; points = 0; contours = 0 }

@@ -1,13 +1,14 @@
 // The structs of the C interface, made from the answers of the calls. A result's number is 0; a refusal has its number and its place, and 0 in every other field.
 #![tactic(auto)]
 
-ghost use Rattle.std.specs.Prelude.{◌≡◌, ℕ};
+ghost use Rattle.std.specs.Prelude.{◌≡◌, ℕ, Err};
 ghost use Rattle.rules.specs.HandedOver.{refuses, refusal, answer_of};
 ghost use Rattle.path.specs.Rows.{Other};
-ghost use Rattle.results.specs.Results.{told, distance_result, start_result, order_result, straight_result, retrace_result, check_result, write_result, read_result};
+ghost use Rattle.contour_recovery.specs.ContourRecovery.{recovery_answer};
+ghost use Rattle.results.specs.Results.{told, distance_result, start_result, order_result, straight_result, retrace_result, check_result, write_result, read_result, contours_result};
 ghost use Rattle.results.specs.Refusals.{PlaceOf32};
 
-use rules::{Refusal, Totals};
+use rules::{Recovered, RecoveryRefusal, Refusal, Totals};
 
 // The paper's number and place of a refusal; 12 has a place of 64 bits, and is none of these.
 #[tactic(auto, unfolding(rules::specs::HandedOver::number_of, rules::specs::HandedOver::place_of, rules::specs::HandedOver::refusal))]
@@ -234,5 +235,52 @@ pub fn read_result(answer: Result<u32, Refusal>) -> ReadFileResult
         number,
         place,
         points,
+    }
+}
+
+// The paper's number and place of a refusal of recovered contours.
+#[tactic(auto, unfolding(contour_recovery::specs::ContourRecovery::recovery_answer))]
+fn recovery_numbers_of(r: RecoveryRefusal) -> (u32, u64)
+    ensures { recovery_answer (Err r) ≡ refuses result.0 result.1 }
+{
+    match r {
+        RecoveryRefusal::PathMiscounted => (3, 0),
+        RecoveryRefusal::PathOffThePlate(place) => (4, place),
+        RecoveryRefusal::PathWorkShort => (5, 0),
+        RecoveryRefusal::NoRoom => (6, 0),
+        RecoveryRefusal::MarksInconsistent(place) => (10, place),
+        RecoveryRefusal::VertexMissing(place) => (11, place),
+    }
+}
+
+#[repr(C)]
+#[derive(Clone, Copy)]
+pub struct ContoursResult {
+    pub number: u32,
+    pub place: u64,
+    pub points: u32,
+    pub contours: u32,
+}
+
+#[tactic(auto, unfolding(crate::specs::Results::contours_result, contour_recovery::specs::ContourRecovery::recovery_answer))]
+pub fn contours_result(answer: Result<Recovered, RecoveryRefusal>) -> ContoursResult
+    ensures { result ≡ contours_result (recovery_answer answer) }
+{
+    match answer {
+        Ok(recovered) => ContoursResult {
+            number: 0,
+            place: 0,
+            points: recovered.points,
+            contours: recovered.contours,
+        },
+        Err(r) => {
+            let (number, place) = recovery_numbers_of(r);
+            ContoursResult {
+                number,
+                place,
+                points: 0,
+                contours: 0,
+            }
+        }
     }
 }

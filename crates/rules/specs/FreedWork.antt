@@ -1,11 +1,11 @@
--- After which refusals the work slices are free (document 02, ticket 7), as rows.
+-- After which refusals the work slices are free (document 02, tickets 6 and 7), as rows.
 use Rattle.std.specs.Prelude.{◌≡◌, refl, ℕ, true, false, List, [], ◌∷◌, map, get_or}
 use Rattle.std.proofs.Common.{ap, arith}
 use Rattle.rules.specs.Tools.{up_from}
 use Rattle.rules.specs.HandedOver.{refuses, frees_work, WorkKept}
 
--- of the refusals 1 to 13, work is free after 6 and 12 alone
-pub freed : map frees_work (up_from 1 13) ≡ (false ∷ false ∷ false ∷ false ∷ false ∷ true ∷ false ∷ false ∷ false ∷ false ∷ false ∷ true ∷ false ∷ [])
+-- of the refusals 1 to 13, work is free after 6, 10, 11 and 12 alone
+pub freed : map frees_work (up_from 1 13) ≡ (false ∷ false ∷ false ∷ false ∷ false ∷ true ∷ false ∷ false ∷ false ∷ true ∷ true ∷ true ∷ false ∷ [])
 unfolding frees_work
 freed = refl
 

@@ -264,7 +264,7 @@ written (refuses number place) result slice = slice
 
 -- the refusals after which a work slice's content is free
 unfoldable pub frees_work : ℕ → Bool
-frees_work number = eqb number 6 || eqb number 12
+frees_work number = eqb number 6 || eqb number 10 || eqb number 11 || eqb number 12
 
 -- A work slice: its content is free after a result and after such a refusal, and unaltered otherwise.
 unfoldable pub WorkKept : {A B : Type 0} → Answer A → List B → List B → Type 0

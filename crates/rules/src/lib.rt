@@ -69,6 +69,17 @@ pub enum Refusal {
     BadLayer(u32),
 }
 
+// Why the contours of a path are not recovered. No limit is set to the slices of such a path, so the place of its 4 has 64 bits, where a `Refusal` has 32.
+#[derive(Clone, Copy, PartialEq, Eq)]
+pub enum RecoveryRefusal {
+    PathMiscounted,
+    PathOffThePlate(u64),
+    PathWorkShort,
+    MarksInconsistent(u64),
+    VertexMissing(u64),
+    NoRoom,
+}
+
 // A path has at most so many points.
 pub const MOST_PATH_POINTS: usize = 1048576;
 
@@ -185,4 +196,11 @@ pub struct Totals {
     pub cut_length: u64,
     pub back_step_length: u64,
     pub jump_length: u64,
+}
+
+// How many points, and contours, were recovered from a path.
+#[derive(Clone, Copy)]
+pub struct Recovered {
+    pub points: u32,
+    pub contours: u32,
 }

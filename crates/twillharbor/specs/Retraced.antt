@@ -6,6 +6,7 @@ use Rattle.rules.specs.Calls.{retrace_call}
 use Rattle.statement.specs.PathStatement.{contour_count, Divides, NeverFall}
 use Rattle.statement.specs.HowNear.{LandingsNear}
 use Rattle.statement.specs.Quotation.{Quoted}
+use Rattle.contour_recovery.specs.ContourRecovery.{GivesBack}
 use Rattle.results.specs.Results.{retrace_result, totals_of, written_of}
 use Rattle.results.specs.declared.RetraceResult.{RetraceResult}
 
@@ -21,5 +22,7 @@ pub record Retraced (p : Plate) (path : List Float) (ms work : List ℕ) (ds pat
   pub never_fall : r.number ≡ 0 → NeverFall p r.points (take (2 * r.points) ms')
   -- its counts and lengths are those of what was written, and its cuts are as long as the plate's contours
   pub quoted : r.number ≡ 0 → Quoted p (totals_of r) (take (2 * r.points) path') (take (2 * r.points) ms')
+  -- the plate's points and contours come back from it
+  pub gives_back : r.number ≡ 0 → GivesBack p r.points (take (2 * r.points) path') (take (2 * r.points) ms')
   -- in all that was written, with the number 0 or 6, the landings are near
   pub near : LandingsNear path' ms' (written_of r)

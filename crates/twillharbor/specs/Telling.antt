@@ -1,13 +1,15 @@
 -- What is promised of a retrace call's answer is promised of the struct that tells it. Assumes nothing.
 use Rattle.std.specs.Prelude.{◌≡◌, refl, List, ℕ, ◌*◌, ◌≤◌, Float, length, take, Result, Ok, Err}
 use Rattle.std.proofs.Math.Path.{ap}
-use Rattle.std.proofs.Common.{arith}
+use Rattle.std.proofs.Common.{sym, ◌∙◌, arith}
 use Rattle.rules.specs.Tools.{pick}
 use Rattle.rules.specs.HandedOver.{Plate, Answer, gives, refuses, refusal, answer_of, WorkKept}
 use Rattle.rules.specs.Calls.{RetraceOutcome, retrace_call}
 use Rattle.statement.specs.PathStatement.{contour_count, Divides, NeverFall}
 use Rattle.statement.specs.HowNear.{LandingsNear, written_points}
 use Rattle.statement.specs.Quotation.{Quoted}
+use Rattle.contour_recovery.specs.ContourRecovery.{RoundTrip}
+use Rattle.round_trip.specs.Theorem.{round_trip}
 use Rattle.rules.specs.declared.Totals.{Totals}
 use Rattle.rules.specs.declared.Refusal.{Refusal}
 use Rattle.results.specs.Results.{retrace_result, totals_of, written_of}
@@ -46,7 +48,7 @@ module _ (p : Plate) (path : List Float) (ms work : List ℕ) (ds path' : List F
 
   pub told : (answer : Result Totals Refusal) (r : RetraceResult) → r ≡ retrace_result (answer_of answer) → Promised (answer_of answer) →
       Retraced p path ms work ds path' ms' work' ds' r
-  unfolding totals_of
+  unfolding totals_of RoundTrip
   told answer r e ((a, b, c, d, f), divides, near) =
       rw e
       (record {
@@ -58,5 +60,6 @@ module _ (p : Plate) (path : List Float) (ms work : List ℕ) (ds path' : List F
         divides = λ z. (divides _ (told_totals answer z)).0;
         never_fall = λ z. (divides _ (told_totals answer z)).1;
         quoted = λ z. (divides _ (told_totals answer z)).2;
+        gives_back = λ z. rw (b, c) (round_trip p path ms (length work) (length ds) _ (sym a ∙ told_totals answer z));
         near = rw (told_written (answer_of answer)) near;
       })

@@ -1,12 +1,13 @@
 // The C interface: its functions take slices and numbers one by one, under one name for each way to start.
 #![tactic(auto)]
 
-ghost use Rattle.std.specs.Prelude.{◌≡◌, ◌/◌, length};
+ghost use Rattle.std.specs.Prelude.{◌≡◌, ◌*◌, ◌/◌, length, take};
 ghost use Rattle.rules.specs.HandedOver.{plate, plate_of, parked_plate, contours_of, WorkKept};
 ghost use Rattle.rules.specs.Calls.{distance_call, start_call, order_call, straight_call};
 ghost use Rattle.statement.specs.PathCheck.{DividesByPoints, FirstFault, check_call};
+ghost use Rattle.contour_recovery.specs.ContourRecovery.{recovery_call};
 ghost use Rattle.file_format.specs.PlateFile.{write_call, read_call};
-ghost use Rattle.results.specs.Results.{distance_result, start_result, order_result, straight_result, check_result, write_result, read_result};
+ghost use Rattle.results.specs.Results.{distance_result, start_result, order_result, straight_result, check_result, write_result, read_result, contours_result};
 ghost use Rattle.twillharbor.specs.Arguments.{point_of, strategy_of};
 ghost use Rattle.twillharbor.specs.Retraced.{Retraced};
 
@@ -14,10 +15,11 @@ use order::order_call;
 use path_check::check_path;
 use plate_file::{read_file, write_file};
 use point::distance_call;
+use recovery::recover_contours;
 use results::{
-    CheckResult, DistanceResult, OrderResult, ReadFileResult, RetraceResult, StartResult,
-    StraightResult, WriteFileResult, check_result, distance_result, order_result, read_result,
-    retrace_result, start_result, straight_result, write_result,
+    CheckResult, ContoursResult, DistanceResult, OrderResult, ReadFileResult, RetraceResult,
+    StartResult, StraightResult, WriteFileResult, check_result, contours_result, distance_result,
+    order_result, read_result, retrace_result, start_result, straight_result, write_result,
 };
 use retrace::retrace_call;
 use rules::{Input, Point, StartPointStrategy};
@@ -242,6 +244,24 @@ pub extern "C" fn twillharbor_check_path(
         × (result.number ≡ 12 → FirstFault cs xs n path.now marks.now result.place) }
 {
     check_result(check_path(points, lengths, path, marks, work))
+}
+
+// The contours of a path with marks, over the starts of `points` and `lengths`. Where the number is 0, the marks divide the path over them.
+#[unsafe(no_mangle)]
+pub extern "C" fn twillharbor_contours(
+    path: &[f64],
+    marks: &[u32],
+    points: &mut [f64],
+    lengths: &mut [u32],
+    work: &mut [u32],
+) -> ContoursResult
+    ensures { let o = recovery_call path.now marks.now points.old lengths.old (length work.old) in
+        let xs = take (2 * result.points) points.new in
+        let cs = contours_of (take result.contours lengths.new) in
+        (result ≡ contours_result o.answer) × (points.new ≡ o.points) × (lengths.new ≡ o.lengths) × WorkKept o.answer work.old work.new
+        × (result.number ≡ 0 → DividesByPoints cs xs (length path.now / 2) path.now marks.now) }
+{
+    contours_result(recover_contours(path, marks, points, lengths, work))
 }
 
 // The file of a path, over the start of `file`.

@@ -6,7 +6,9 @@
 //! calls each waits for the answer of the one before.
 
 mod check_path;
+mod contours;
 mod files;
+mod plain_contours;
 mod plates;
 mod retrace;
 
@@ -74,6 +76,7 @@ fn main() {
     plates::report();
     retrace::report();
     check_path::report();
+    contours::report();
     files::report();
 }
 

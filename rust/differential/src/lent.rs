@@ -80,7 +80,11 @@ impl<T: Number> Lent<T> {
     /// The first place whose bits are not what they should be: the slice begins with
     /// `written`, and all else, the margins too, is what it was.
     pub fn difference(&self, written: &[[T; 2]]) -> Option<Difference> {
-        let written = written.as_flattened();
+        self.difference_from(written.as_flattened())
+    }
+
+    /// The same, of numbers that are no pairs.
+    pub fn difference_from(&self, written: &[T]) -> Option<Difference> {
         let (margin, slice) = self.before.split_at(self.margin);
         // What does not fit in the slice shows as a difference: the margin is not that.
         let should = margin.iter().chain(written).chain(slice.get(written.len()..).unwrap_or(&[]));

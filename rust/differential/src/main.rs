@@ -6,7 +6,10 @@
 mod caches;
 mod centers;
 mod checker;
+mod contours;
 mod damaged_files;
+mod damaged_marks;
+mod decoder;
 mod distances;
 mod drawn;
 mod files;
@@ -37,6 +40,7 @@ mod retrace_plates;
 mod retracing;
 mod rule;
 mod run;
+mod small_marks;
 mod tally;
 mod touches;
 
@@ -60,12 +64,15 @@ usage: differential distances --pairs N --seed S [--threads T]
        differential retrace-plate --kind K --seed S
        differential paths --plates N --seed S [--threads T]
        differential paths-plate --kind K --seed S
+       differential contours --plates N --seed S [--threads T]
+       differential contours-plate --kind K --seed S
        differential files --files N --seed S [--threads T]
        differential file --kind K --seed S
        differential record-distances --out FILE
        differential record-plates --out FILE
        differential record-retrace --out FILE
        differential record-paths --out FILE
+       differential record-contours --out FILE
        differential record-files --out FILE";
 
 fn main() -> ExitCode {
@@ -105,6 +112,11 @@ fn command(words: &[String]) -> Result<bool, String> {
             let [kind, seed] = options(rest, ["--kind", "--seed"])?;
             paths::run_one(number("--kind", kind)?, number("--seed", seed)?)
         }
+        "contours" => Ok(contours::run(plan(rest, "--plates")?)),
+        "contours-plate" => {
+            let [kind, seed] = options(rest, ["--kind", "--seed"])?;
+            contours::run_one(number("--kind", kind)?, number("--seed", seed)?)
+        }
         "files" => Ok(files::run(plan(rest, "--files")?)),
         "file" => {
             let [kind, seed] = options(rest, ["--kind", "--seed"])?;
@@ -114,6 +126,7 @@ fn command(words: &[String]) -> Result<bool, String> {
         "record-plates" => record(rest, record::plates),
         "record-retrace" => record(rest, record::retrace::retraces),
         "record-paths" => record(rest, record::paths::paths),
+        "record-contours" => record(rest, record::contours::contours),
         "record-files" => record(rest, record::files::files),
         _ => Err(format!("no command {name}")),
     }

@@ -25,8 +25,9 @@
 //! elements.
 //!
 //! The rows of the retrace call are described in `retrace`, those of the check of a path in `paths`,
-//! those of the plate file in `files`.
+//! those of the contours call in `contours`, those of the plate file in `files`.
 
+pub mod contours;
 pub mod files;
 mod home;
 mod in_layers;

@@ -45,6 +45,7 @@ pub enum Command {
     Step,
     View,
     Read,
+    Contours,
 }
 
 impl Command {
@@ -54,7 +55,7 @@ impl Command {
         match self {
             Self::Retrace | Self::Straight => &[Text, Json, Svg, PlateMarks, PlateFile],
             Self::Order | Self::Start => &[Text, Json, Svg, PlateMarks],
-            Self::Read => &[Text, Json, Svg],
+            Self::Read | Self::Contours => &[Text, Json, Svg],
             Self::Quote => &[Text, Json],
             Self::Check | Self::Verify | Self::Step | Self::View => &[],
         }
@@ -66,12 +67,12 @@ impl Command {
 
     /// Whether size and strategy make a difference.
     const fn has_terms(self) -> bool {
-        !matches!(self, Self::Verify | Self::Read)
+        !matches!(self, Self::Verify | Self::Read | Self::Contours)
     }
 
     /// Whether it takes contours, which have layers.
     const fn has_layers(self) -> bool {
-        !matches!(self, Self::Read)
+        !matches!(self, Self::Read | Self::Contours)
     }
 
     const fn has_output(self) -> bool {
@@ -107,7 +108,7 @@ impl Format {
     }
 }
 
-const PLATE_COMMANDS: [(&str, Command); 10] = [
+const PLATE_COMMANDS: [(&str, Command); 11] = [
     ("retrace", Command::Retrace),
     ("straight", Command::Straight),
     ("order", Command::Order),
@@ -118,6 +119,7 @@ const PLATE_COMMANDS: [(&str, Command); 10] = [
     ("step", Command::Step),
     ("view", Command::View),
     ("read", Command::Read),
+    ("contours", Command::Contours),
 ];
 
 /// Reads the words after the tool's own name; a fault is a line for the user.
@@ -361,6 +363,8 @@ mod tests {
             ("straight --format=plate-file a", Format::PlateFile),
             ("read a --format svg", Format::Svg),
             ("read a", Format::Text),
+            ("contours a", Format::Text),
+            ("contours a --format=svg -o b", Format::Svg),
             ("quote a --format json --home 1,2 --layer 3 -o b", Format::Json),
         ] {
             let Ok(Request::Plate(request)) = parsed(line) else { panic!("{line}") };
@@ -474,6 +478,11 @@ mod tests {
             ("read a --layer 1", "read has no option --layer: see `twill help read`"),
             ("read a --home 1,2", "read has no option --home: see `twill help read`"),
             ("read", "read takes a FILE (`-` is the standard input)"),
+            ("contours", "contours takes a FILE (`-` is the standard input)"),
+            ("contours a b", "contours takes one FILE; `b` is a second"),
+            ("contours a --layer 1", "contours has no option --layer: see `twill help contours`"),
+            ("contours a --inside", "contours has no option --inside: see `twill help contours`"),
+            ("contours a --format plate-file", "--format is text, json or svg, not `plate-file`"),
             ("distance 1 2 3", "distance takes four numbers, ax ay bx by, not 3"),
             ("distance 1 2 3 x", "distance takes four numbers; `x` is none"),
             ("help me", "`me` is no command: `twill help` lists them"),

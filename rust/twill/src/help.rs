@@ -10,9 +10,10 @@ pub fn text(command: Option<&str>) -> String {
         Some("start") => include_str!("help/start.txt"),
         Some("quote") => include_str!("help/quote.txt"),
         Some("check") => include_str!("help/check.txt"),
-        // Of the plate options the first has one, the other none.
+        // Of the plate options the first has one, the others none.
         Some("verify") => return include_str!("help/verify.txt").into(),
         Some("read") => return include_str!("help/read.txt").into(),
+        Some("contours") => return include_str!("help/contours.txt").into(),
         Some("step") => include_str!("help/step.txt"),
         Some("view") => include_str!("help/view.txt"),
         Some(_) => return include_str!("help/distance.txt").into(),

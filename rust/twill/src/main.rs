@@ -7,6 +7,7 @@ mod damaged;
 mod failure;
 mod help;
 mod joined;
+mod marks;
 mod number;
 mod output;
 mod passes;

@@ -1,7 +1,9 @@
 //! Files as plates.
 
+mod cursor;
 mod drawing;
 mod json;
+mod row;
 mod svg;
 mod text;
 mod xml;
@@ -23,12 +25,14 @@ pub fn read(text: &str) -> Result<Plate, Remark> {
     }
 }
 
-/// Reads a path with its marks, as `retrace` writes it: `{` begins JSON, and anything else is the
-/// text form.
+/// Reads a path with its marks, as `retrace` writes it: `{` begins JSON, a bracket or the word
+/// `empty` or `none` the row of marked plates, and anything else is the text form.
 pub fn read_path(text: &str) -> Result<Drawing, Remark> {
-    match text.trim_start_matches('\u{FEFF}').trim_start().chars().next() {
+    let content = text.trim_start_matches('\u{FEFF}').trim_start();
+    match content.chars().next() {
         None => Err(Remark::new(0, "the file is empty")),
         Some('{') => json::read_path(text),
+        _ if row::is_one(content) => row::read(text),
         _ => drawing::read(text),
     }
 }

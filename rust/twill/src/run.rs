@@ -8,7 +8,7 @@ use crate::plate::{Handed, Plate, Position, Remark, file_name};
 use crate::quote::Quotation;
 use crate::read::Drawing;
 use crate::refused::{Loaded, distance_refused, refused};
-use crate::{help, output, plate_file, read, step, verify, view, words, write};
+use crate::{help, marks, output, plate_file, read, step, verify, view, words, write};
 use std::collections::BTreeSet;
 use std::io::Read;
 use std::path::{Path, PathBuf};
@@ -54,6 +54,9 @@ fn check_output(request: &PlateRequest) -> Result<(), Failure> {
 
 fn plate(request: &PlateRequest) -> Result<(), Failure> {
     check_output(request)?;
+    if request.command == Command::Contours {
+        return contours(request);
+    }
     let (name, content) = content(&request.source)?;
     if request.command == Command::Read || plate_file::is_one(&content) {
         return file(request, &name, &content);
@@ -82,7 +85,7 @@ fn plate(request: &PlateRequest) -> Result<(), Failure> {
         Command::Verify => return verify(request, &loaded),
         Command::Step => return step(&retrace(&loaded)?, &loaded.name),
         Command::View => return page(request, &retrace(&loaded)?),
-        Command::Read => unreachable!("it reads plate files alone"),
+        Command::Read | Command::Contours => unreachable!("they read no plate"),
     };
     put(request, &result)
 }
@@ -129,6 +132,7 @@ fn file(request: &PlateRequest, name: &str, content: &[u8]) -> Result<(), Failur
                 format!("{name}: a plate file holds a path and no contours: see `twill help read`");
             Err(Failure::file(line))
         }
+        Command::Contours => unreachable!("it reads a path with marks"),
     }
 }
 
@@ -284,12 +288,12 @@ fn totals(what: &str, joined: &Joined) -> String {
     format!("{what}: {counts}\n{}\n", words::lengths(joined.lengths()))
 }
 
-/// A path that is to be verified, after its file's name for messages and its text.
-fn drawing(source: &Source) -> Result<(String, String, Drawing), Failure> {
+/// A path with marks, after its file's name for messages and its text. What is done by the marks is
+/// told where there are none.
+fn drawing(source: &Source, done: &str) -> Result<(String, String, Drawing), Failure> {
     let (name, content) = content(source)?;
     if plate_file::is_one(&content) {
-        let line =
-            format!("{name}: a plate file has no marks, and a path is verified by its marks");
+        let line = format!("{name}: a plate file has no marks, and {done} by its marks");
         return Err(Failure::file(line));
     }
     let text = text(&name, content)?;
@@ -305,14 +309,15 @@ fn drawing(source: &Source) -> Result<(String, String, Drawing), Failure> {
 /// of it as keeps the rules, and opens there.
 fn verify(request: &PlateRequest, loaded: &Loaded) -> Result<(), Failure> {
     let source = request.path.as_ref().expect("the command line names a path");
-    let (name, text, drawing) = drawing(source)?;
-    let Drawing { path, marks, bytes } = &drawing;
+    let (name, text, drawing) = drawing(source, "a path is verified")?;
+    let Drawing { path, marks: numbers, bytes } = &drawing;
     let Handed { points, lengths, .. } = &loaded.plate;
     let joined = |points: usize| {
-        let path = MarkedPath::of(&path[..2 * points], &marks[..2 * points])?;
+        let path = MarkedPath::of(&path[..2 * points], &numbers[..2 * points])?;
         Some(Joined::new(loaded.plate.clone(), path))
     };
-    let (lines, shown, is_accepted) = match twillharbor::check_path(points, lengths, path, marks) {
+    let (lines, shown, is_accepted) = match twillharbor::check_path(points, lengths, path, numbers)
+    {
         Ok(()) => {
             let drawn = joined(bytes.len()).expect("the library has accepted its marks");
             let totals = totals("path", &drawn);
@@ -329,10 +334,8 @@ fn verify(request: &PlateRequest, loaded: &Loaded) -> Result<(), Failure> {
         }
         // The plate is always handed over well.
         Err(refusal @ Refusal::Miscounted) => {
-            let counted = words::count(bytes.len(), "path point");
-            let marked = words::count(marks.len(), "number");
-            let line = format!("{name}: refused: {refusal}: {counted}, and {marked} in marks\n");
-            (line, None, false)
+            let counted = marks::miscounted(&drawing);
+            (format!("{name}: refused: {refusal}: {counted}\n"), None, false)
         }
         Err(refusal) => (format!("{}\n", refused(loaded, refusal)), None, false),
     };
@@ -342,6 +345,21 @@ fn verify(request: &PlateRequest, loaded: &Loaded) -> Result<(), Failure> {
         save_page(to, &joined, &page_name(&request.source), at)?;
     }
     if is_accepted { Ok(()) } else { Err(Failure { status: 1, line: None }) }
+}
+
+/// The contours that a path draws, as a picture that the other commands read.
+fn contours(request: &PlateRequest) -> Result<(), Failure> {
+    let (name, text, drawing) = drawing(&request.source, "contours are recovered")?;
+    let refuse = |refusal| {
+        let (place, why) = marks::why(&drawing, refusal);
+        let position = match place {
+            Some(place) => format!(":{}", Position::of(&text, drawing.bytes[place])),
+            None => String::new(),
+        };
+        Failure::refused(format!("{name}{position}: refused: {refusal}: {why}"))
+    };
+    let recovered = twillharbor::contours(&drawing.path, &drawing.marks).map_err(refuse)?;
+    put(request, write::contours(&recovered, request.format).as_bytes())
 }
 
 /// Without `-o` the page is named after the plate, and takes the place of no file but such a

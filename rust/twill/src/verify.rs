@@ -1,11 +1,12 @@
 //! Why a path does not draw a plate, in words. That it does not, and at which path point, is the
 //! library's answer: the path points before that keep the rules.
 
-use crate::plate::{Handed, point};
+use crate::marks::{self, NO_JUMP, NO_TOUCH, same, shown};
+use crate::plate::Handed;
 use crate::read::Drawing;
-use crate::words::{self, count};
+use crate::words::count;
 use std::collections::HashMap;
-use twillharbor::{Mark, Point};
+use twillharbor::Mark;
 
 /// Two lines: the pair at fault with its mark, and the rule that it breaks; or, where the place is
 /// the path's end, that it ends and what is left out.
@@ -14,29 +15,15 @@ pub fn why(plate: &Handed, drawing: &Drawing, place: usize) -> [String; 2] {
     if place == walk.path.len() {
         return [format!("the path ends after {}", count(place, "point")), walk.left_out()];
     }
-    let [kind, reference] = walk.marks[place];
-    let mark = match Mark::of([kind, reference]) {
-        Some(mark) => format!("{} {reference}", words::kind(mark)),
-        None => format!("kind {kind} reference {reference}"),
-    };
-    let to = shown(walk.path[place]);
-    let pair = match place {
-        0 => format!("path point 0: {mark}, at {to}"),
-        _ => format!("path point {place}: {mark}, from {} to {to}", shown(walk.path[place - 1])),
-    };
-    [pair, walk.broken(place)]
-}
-
-fn shown([x, y]: [f64; 2]) -> String {
-    point(Point { x, y })
+    [marks::path_point(drawing, place), walk.broken(place)]
 }
 
 /// What the path points before a place have drawn.
 struct Walk<'a> {
     plate: &'a Handed,
+    drawing: &'a Drawing,
     points: &'a [[f64; 2]],
     path: &'a [[f64; 2]],
-    marks: &'a [[u32; 2]],
     /// For each vertex of the plate the contour that it is of and its number within it.
     vertices: Vec<(usize, usize)>,
     /// The path point that entered a contour.
@@ -48,10 +35,10 @@ struct Walk<'a> {
 impl<'a> Walk<'a> {
     fn new(plate: &'a Handed, drawing: &'a Drawing, place: usize) -> Self {
         let (points, _) = plate.points.as_chunks();
-        let ((path, _), (marks, _)) = (drawing.path.as_chunks(), drawing.marks.as_chunks());
+        let path = drawing.points();
         let vertices: Vec<(usize, usize)> = plate.vertices().collect();
         let (mut entered, mut cut) = (HashMap::new(), HashMap::new());
-        for (at, &mark) in marks[..place].iter().enumerate() {
+        for (at, &mark) in drawing.numbers()[..place].iter().enumerate() {
             match Mark::of(mark) {
                 Some(Mark::Start { vertex } | Mark::Jump { vertex } | Mark::Touch { vertex }) => {
                     let (contour, _) = vertices[vertex as usize];
@@ -61,22 +48,15 @@ impl<'a> Walk<'a> {
                 Some(Mark::BackStep { .. }) | None => {}
             }
         }
-        Self { plate, points, path, marks, vertices, entered, cut }
+        Self { plate, drawing, points, path, vertices, entered, cut }
     }
 
     /// The rule that a path point breaks.
     fn broken(&self, place: usize) -> String {
-        let numbers = self.marks[place];
-        let Some(mark) = Mark::of(numbers) else {
-            return format!("there is no kind {}: kinds are 0 to 4", numbers[0]);
+        let mark = match marks::mark(self.drawing, place) {
+            Ok(mark) => mark,
+            Err(broken) => return broken,
         };
-        let is_start = matches!(mark, Mark::Start { .. });
-        if is_start != (place == 0) {
-            return match is_start {
-                true => "the first path point alone is a start".into(),
-                false => "the first path point is a start".into(),
-            };
-        }
         match mark {
             Mark::Start { vertex } | Mark::Jump { vertex } | Mark::Touch { vertex } => {
                 self.broken_landing(place, vertex as usize, mark)
@@ -92,7 +72,7 @@ impl<'a> Walk<'a> {
             return format!("the plate has no vertex {vertex}: it has {points}");
         };
         if !same(self.path[place], self.points[vertex]) {
-            let should = self.should(place, self.points[vertex]);
+            let should = marks::should(self.path[place], self.points[vertex]);
             return format!(
                 "vertex {vertex}, which is contour {contour} vertex {within}, {should}"
             );
@@ -101,8 +81,8 @@ impl<'a> Walk<'a> {
             return format!("contour {contour} was entered before, at path point {at}");
         }
         match mark {
-            Mark::Touch { .. } => "these two points differ, so it is a jump and no touch".into(),
-            _ => "these two points are equal, so it is a touch and no jump".into(),
+            Mark::Touch { .. } => NO_TOUCH.into(),
+            _ => NO_JUMP.into(),
         }
     }
 
@@ -137,19 +117,11 @@ impl<'a> Walk<'a> {
             return format!("path points {k} and {next} are not both earlier");
         }
         if !same(self.path[place - 1], self.path[next]) {
-            let should = self.should(place - 1, self.path[next]);
+            let should = marks::should(self.path[place - 1], self.path[next]);
             return format!("it goes back from path point {next}, which {should}");
         }
-        let should = self.should(place, self.path[k]);
+        let should = marks::should(self.path[place], self.path[k]);
         format!("it goes back to path point {k}, which {should}")
-    }
-
-    /// What a path point should be.
-    fn should(&self, place: usize, point: [f64; 2]) -> String {
-        match self.path[place] == point {
-            true => format!("is {}: 0 and -0 are told apart here", shown(point)),
-            false => format!("is {}", shown(point)),
-        }
     }
 
     /// What a path that keeps the rules does not draw: the first, and how much in all.
@@ -173,8 +145,4 @@ impl<'a> Walk<'a> {
             (count(unentered.len(), "contour"), count(uncut.len(), "segment"));
         format!("{first}; in all {contours} not entered, {segments} not cut")
     }
-}
-
-fn same(a: [f64; 2], b: [f64; 2]) -> bool {
-    a.map(f64::to_bits) == b.map(f64::to_bits)
 }

@@ -1,5 +1,6 @@
 //! What the calls give, in the formats.
 
+mod contours;
 mod picture;
 mod quote;
 
@@ -13,6 +14,7 @@ use crate::words;
 use std::fmt::Write;
 use twillharbor::{Counts, Entry, Lengths, Mark, Point, Start, StartPointStrategy, write_file};
 
+pub use contours::contours;
 pub use quote::quote;
 
 /// The path with its marks; a plate file has none.

@@ -335,7 +335,7 @@ fn help_tells_of_each_command() {
     assert_eq!(folder.twill("--help").done(), whole);
     let commands = [
         "retrace", "straight", "order", "start", "quote", "check", "step", "view", "read",
-        "distance",
+        "contours", "distance",
     ];
     for command in commands {
         assert!(whole.contains(&format!("twill {command} ")), "{command}");

@@ -72,7 +72,7 @@ fn a_path_is_accepted_with_its_counts() {
 }
 
 #[test]
-fn what_retrace_writes_is_accepted_in_both_forms() {
+fn what_retrace_writes_is_accepted_in_each_form() {
     let folder = folder("written");
     let plates = [
         ("plate.txt", PLATE, ""),
@@ -82,12 +82,31 @@ fn what_retrace_writes_is_accepted_in_both_forms() {
     ];
     for (name, plate, layer) in plates {
         folder.put(name, plate);
-        for form in ["text", "json"] {
+        for form in ["text", "json", "plate-marks"] {
             folder.twill(&format!("retrace {name} {layer} --format {form} -o drawn")).done();
             let told = folder.twill(&format!("verify {name} drawn {layer}")).done();
             assert!(told.starts_with(&format!("drawn: accepted: it draws {name}\n")), "{told}");
         }
     }
+}
+
+#[test]
+fn a_row_draws_what_its_path_draws() {
+    let folder = folder("row");
+    // Its own contours are others.
+    let row = "(9,9), 0 by 0, Inside: (0,0)(4,0)(8,0)(0,1)(0,1); marks 0 0, 1 0, 1 1, 3 3, 4 4\n";
+    let told = folder.twill_with("verify plate.txt -", row).done();
+    assert!(told.starts_with("standard input: accepted: it draws plate.txt\n"), "{told}");
+    let ran = folder.twill_with("verify plate.txt -", &row.replace(", 3 3", ", 3 2"));
+    assert_eq!(
+        (ran.status, ran.out.as_str()),
+        (
+            Some(1),
+            "standard input:1:39: refused: path does not draw the plate (refusal 12, place 3)\n\
+             path point 3: jump 2, from (8,0) to (0,1)\n\
+             vertex 2, which is contour 0 vertex 2, is (8,0)\n"
+        )
+    );
 }
 
 #[test]
@@ -251,6 +270,11 @@ fn other_refusals_and_malformed_files() {
     folder.put("bad.txt", "0 0 start 0\n4 0 hop 1\n");
     let ran = folder.twill("verify plate.txt bad.txt");
     let line = "twill: bad.txt:2:1: `hop` is none of start, cut, back-step, jump, touch\n";
+    assert_eq!((ran.status, ran.out.as_str(), ran.err.as_str()), (Some(3), "", line));
+    folder.put("bad.txt", "(0,0), 0 by 0, Inside: (0,0); marks 0\n");
+    let ran = folder.twill("verify plate.txt bad.txt");
+    let line = "twill: bad.txt:1:38: expected as reference a whole number from 0 to 4294967295, \
+                not the end of the line\n";
     assert_eq!((ran.status, ran.out.as_str(), ran.err.as_str()), (Some(3), "", line));
     let ran = folder.twill("verify plate.txt none.txt");
     assert_eq!((ran.status, ran.out.as_str()), (Some(3), ""));

@@ -84,6 +84,22 @@ pub struct CheckPathResult {
 }
 
 /// ```c
+/// struct twillharbor_contours_result {
+///     uint32_t number;
+///     uint64_t place;
+///     uint32_t points, contours;
+/// };
+/// ```
+#[repr(C)]
+#[derive(Debug, Clone, Copy)]
+pub struct ContoursResult {
+    pub number: u32,
+    pub place: u64,
+    pub points: u32,
+    pub contours: u32,
+}
+
+/// ```c
 /// struct twillharbor_write_file_result { uint32_t number, place, bytes; };
 /// ```
 #[repr(C)]
@@ -328,6 +344,27 @@ unsafe extern "C" {
         work: *mut u32,
         work_length: usize,
     ) -> CheckPathResult;
+
+    /// ```c
+    /// struct twillharbor_contours_result twillharbor_contours(
+    ///     const double *path, size_t path_length,
+    ///     const uint32_t *marks, size_t marks_length,
+    ///     double *points, size_t points_length,
+    ///     uint32_t *lengths, size_t lengths_length,
+    ///     uint32_t *work, size_t work_length);
+    /// ```
+    fn twillharbor_contours(
+        path: *const f64,
+        path_length: usize,
+        marks: *const u32,
+        marks_length: usize,
+        points: *mut f64,
+        points_length: usize,
+        lengths: *mut u32,
+        lengths_length: usize,
+        work: *mut u32,
+        work_length: usize,
+    ) -> ContoursResult;
 
     /// ```c
     /// struct twillharbor_write_file_result twillharbor_write_file(
@@ -630,6 +667,32 @@ pub fn check_path(
     }
 }
 
+/// `twillharbor_contours` on Rust's slices.
+pub fn contours(
+    path: &[f64],
+    marks: &[u32],
+    points: &mut [f64],
+    lengths: &mut [u32],
+    work: &mut [u32],
+) -> ContoursResult {
+    // SAFETY: each slice goes as its pointer and its length; those that the call writes are
+    // lent to it alone.
+    unsafe {
+        twillharbor_contours(
+            path.as_ptr(),
+            path.len(),
+            marks.as_ptr(),
+            marks.len(),
+            points.as_mut_ptr(),
+            points.len(),
+            lengths.as_mut_ptr(),
+            lengths.len(),
+            work.as_mut_ptr(),
+            work.len(),
+        )
+    }
+}
+
 /// `twillharbor_write_file` on Rust's slices.
 pub fn write_file(path: &[f64], file: &mut [u8]) -> WriteFileResult {
     // SAFETY: each slice goes as its pointer and its length; the one that the call writes is
@@ -647,8 +710,8 @@ pub fn read_file(file: &[u8], path: &mut [f64]) -> ReadFileResult {
 #[cfg(test)]
 mod tests {
     use super::{
-        RetraceResult, order, order_home, read_file, retrace, retrace_home, start, start_home,
-        straight, straight_home, twillharbor_distance, write_file,
+        RetraceResult, contours, order, order_home, read_file, retrace, retrace_home, start,
+        start_home, straight, straight_home, twillharbor_distance, write_file,
     };
 
     /// Points, lengths and layers, and the number and place with which they are refused.
@@ -783,6 +846,25 @@ mod tests {
                 &mut [8.0; 2][..distances],
             );
             assert_eq!(refused(r), [number, place]);
+        }
+    }
+
+    #[test]
+    fn refusals_of_the_contours_call_leave_the_other_fields_zero() {
+        let path = [0.0, 0.0, 4.0, 0.0];
+        for (path, marks, [points, lengths, work], number, place) in [
+            (&path[..3], [0, 0, 1, 0], [4, 1, 8], 3, 0),
+            (&[0.0, 0.0, f64::NAN, 0.0], [0, 0, 1, 0], [4, 1, 8], 4, 2),
+            (&path, [0, 0, 1, 0], [4, 1, 7], 5, 0),
+            (&path, [0, 0, 1, 1], [4, 1, 8], 10, 1),
+            (&path, [0, 0, 3, 2], [4, 2, 8], 11, 1),
+            (&path, [0, 0, 1, 0], [3, 1, 8], 6, 0),
+            (&path, [0, 0, 1, 0], [4, 0, 8], 6, 0),
+        ] {
+            let (mut held, mut counts, mut room) =
+                (vec![8.0; points], vec![8; lengths], vec![8; work]);
+            let r = contours(path, &marks, &mut held, &mut counts, &mut room);
+            assert_eq!((r.number, r.place, [r.points, r.contours]), (number, place, [0, 0]));
         }
     }
 

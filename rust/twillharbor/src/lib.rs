@@ -16,6 +16,7 @@
 
 pub mod c;
 mod check_path;
+mod contours;
 mod lengths;
 mod plate;
 mod plate_file;
@@ -23,6 +24,7 @@ mod refusal;
 mod retrace;
 
 pub use check_path::{check_path, check_path_with, check_path_work};
+pub use contours::{Contours, Recovered, contours, contours_into, contours_work};
 pub use lengths::{Lengths, pair_length};
 pub use plate::{
     Entry, HIGHEST_LAYER, Plate, Size, Start, StartPointStrategy, order, order_into, start,

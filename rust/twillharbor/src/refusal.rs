@@ -1,3 +1,4 @@
+use crate::plate::MOST_POINTS;
 use crate::{BLOCK_BYTES, HIGHEST_LAYER, StartPointStrategy};
 use std::cmp::Ordering;
 use std::error::Error;
@@ -8,6 +9,8 @@ const OFF_THE_PLATE: u32 = 4;
 const FULL: u32 = 6;
 const BLOCK_DAMAGED: u32 = 8;
 const WRONG_END: u32 = 9;
+const MARKS_INCONSISTENT: u32 = 10;
+const VERTEX_MISSING: u32 = 11;
 const NOT_DRAWN: u32 = 12;
 
 /// The greatest magnitude of a coordinate of a plate, and of its parked point.
@@ -16,7 +19,8 @@ const HIGHEST_COORDINATE: f64 = 1_000_000.0;
 /// Why a call was refused: the table of documents 01 and 02. Its conditions are tested in this
 /// order, 13 between 3 and 4, 4 of a parked point before that of the contours' coordinates, and 3
 /// of a path that is checked after 4; the first that holds wins. Of a plate file that is read, 8, 2
-/// and 9 are tested block by block, and 6 after all else.
+/// and 9 are tested block by block. Of such a file, and of a path whose contours are recovered, 6 is
+/// tested after all else.
 #[derive(Debug, Clone, Copy, PartialEq, Eq, Hash)]
 #[non_exhaustive]
 pub enum Refusal {
@@ -25,9 +29,9 @@ pub enum Refusal {
     /// 2: the lengths sum to more than 65,536; or the path of a plate file has more than 1,048,576
     /// points.
     TooManyPoints,
-    /// 3: the point slice's length is not twice that sum; or, of a path that is checked, its slice's
-    /// length is odd or the marks slice is not as long; or, of one that is written to a plate file,
-    /// its slice's length is odd.
+    /// 3: the point slice's length is not twice that sum; or, of a path that is checked or whose
+    /// contours are recovered, its slice's length is odd or the marks slice is not as long; or, of
+    /// one that is written to a plate file, its slice's length is odd.
     Miscounted,
     /// 13: the layer slice has not one number for each contour, or a layer is above 15.
     BadLayer(LayerFault),
@@ -42,6 +46,12 @@ pub enum Refusal {
         /// The first such coordinate.
         place: u32,
     },
+    /// 4: a coordinate of a path whose contours are recovered is NaN, infinite or of magnitude above
+    /// 1,000,000.
+    PathOffThePlate {
+        /// The first such coordinate: twice the path point's place for its x, and the next for its y.
+        place: u64,
+    },
     /// 5: a work slice is too short.
     WorkShort {
         /// 0 for the u32 work slice; 1 for the f64 one, the u32 one being enough.
@@ -49,7 +59,8 @@ pub enum Refusal {
     },
     /// 6: the result has more points, order entries or bytes than fit.
     Full {
-        /// How many fit, and were written; of a plate file or its path 0, for nothing is written.
+        /// How many fit, and were written; of a plate file or its path, and of contours that are
+        /// recovered, 0, for nothing is written.
         place: u32,
     },
     /// 7: no contour holds a point.
@@ -64,6 +75,17 @@ pub enum Refusal {
     WrongEnd {
         /// The file's length where it ends early; else the byte at which its closing block ends.
         place: u32,
+    },
+    /// 10: a path whose contours are recovered breaks a rule of marks.
+    MarksInconsistent {
+        /// The first path point that breaks one.
+        place: u64,
+    },
+    /// 11: a path whose contours are recovered does not land on every vertex below the highest that
+    /// it lands on.
+    VertexMissing {
+        /// The lowest vertex that it does not land on.
+        place: u64,
     },
     /// 12: a path that is checked does not draw the plate.
     NotDrawn {
@@ -97,12 +119,16 @@ impl Refusal {
             Self::TooManyPoints => 2,
             Self::Miscounted => 3,
             Self::BadLayer(_) => BAD_LAYER,
-            Self::HomeOffThePlate { .. } | Self::OffThePlate { .. } => OFF_THE_PLATE,
+            Self::HomeOffThePlate { .. }
+            | Self::OffThePlate { .. }
+            | Self::PathOffThePlate { .. } => OFF_THE_PLATE,
             Self::WorkShort { .. } => 5,
             Self::Full { .. } => FULL,
             Self::Blank => 7,
             Self::BlockDamaged { .. } => BLOCK_DAMAGED,
             Self::WrongEnd { .. } => WRONG_END,
+            Self::MarksInconsistent { .. } => MARKS_INCONSISTENT,
+            Self::VertexMissing { .. } => VERTEX_MISSING,
             Self::NotDrawn { .. } => NOT_DRAWN,
         }
     }
@@ -115,12 +141,16 @@ impl Refusal {
             Self::TooManyPoints => "too many points",
             Self::Miscounted => "miscounted",
             Self::BadLayer(_) => "bad layer",
-            Self::HomeOffThePlate { .. } | Self::OffThePlate { .. } => "off the plate",
+            Self::HomeOffThePlate { .. }
+            | Self::OffThePlate { .. }
+            | Self::PathOffThePlate { .. } => "off the plate",
             Self::WorkShort { .. } => "work short",
             Self::Full { .. } => "full",
             Self::Blank => "blank",
             Self::BlockDamaged { .. } => "block damaged",
             Self::WrongEnd { .. } => "file ends early, or goes on after its closing block",
+            Self::MarksInconsistent { .. } => "marks inconsistent",
+            Self::VertexMissing { .. } => "vertex missing",
             Self::NotDrawn { .. } => "path does not draw the plate",
         }
     }
@@ -138,7 +168,10 @@ impl Refusal {
             | Self::BadLayer(
                 LayerFault::Length { contours: place } | LayerFault::Layer { contour: place },
             ) => place as u64,
-            Self::NotDrawn { place } => place,
+            Self::PathOffThePlate { place }
+            | Self::MarksInconsistent { place }
+            | Self::VertexMissing { place }
+            | Self::NotDrawn { place } => place,
             Self::TooManyContours | Self::TooManyPoints | Self::Miscounted | Self::Blank => 0,
         }
     }
@@ -249,6 +282,36 @@ pub(crate) fn accepted_path(number: u32, place: u64, points: usize) -> Result<()
     }
 }
 
+/// [`accepted`] for the contours of a path whose slice has that length. The vertices below a missing
+/// one are landed on, and so is a higher one, each by a path point of its own.
+///
+/// # Panics
+///
+/// As [`accepted`].
+pub(crate) fn accepted_contours(
+    number: u32,
+    place: u64,
+    coordinates: usize,
+) -> Result<(), Refusal> {
+    let is_below = |most: usize| place < most as u64;
+    let points = coordinates / 2;
+    match (number, place) {
+        (0, 0) => Ok(()),
+        (3, 0) => Err(Refusal::Miscounted),
+        (OFF_THE_PLATE, _) if is_below(coordinates) => Err(Refusal::PathOffThePlate { place }),
+        (5, 0) => Err(Refusal::WorkShort { place: 0 }),
+        (FULL, 0) => Err(Refusal::Full { place: 0 }),
+        (MARKS_INCONSISTENT, _) if is_below(points) => Err(Refusal::MarksInconsistent { place }),
+        (VERTEX_MISSING, _) if is_below(points.min(MOST_POINTS - 1)) => {
+            Err(Refusal::VertexMissing { place })
+        }
+        _ => panic!(
+            "libtwillharbor.a answered number {number}, place {place} where it recovers the \
+             contours of a path of {points} points"
+        ),
+    }
+}
+
 /// [`accepted`] for the writer of a plate file, of a path slice of that length.
 ///
 /// # Panics
@@ -285,7 +348,10 @@ pub(crate) fn accepted_read(number: u32, place: u32, bytes: usize) -> Result<(),
 
 #[cfg(test)]
 mod tests {
-    use super::{LayerFault, Refusal, accepted, accepted_path, accepted_read, accepted_write};
+    use super::{
+        LayerFault, Refusal, accepted, accepted_contours, accepted_path, accepted_read,
+        accepted_write,
+    };
     use crate::StartPointStrategy::{self, Home, Inside, Outside};
     use crate::{Point, refusal};
 
@@ -421,6 +487,54 @@ mod tests {
         }
         assert!(std::panic::catch_unwind(|| accepted(12, 0)).is_err());
         assert!(std::panic::catch_unwind(|| accepted_plate(12, 0, 9)).is_err());
+    }
+
+    #[test]
+    fn contours_are_refused_at_a_coordinate_a_path_point_or_a_vertex() {
+        let long = 1 << 40;
+        for (number, place, coordinates, word) in [
+            (3, 0, 7, "miscounted"),
+            (4, 7, 8, "off the plate"),
+            (4, long - 1, long, "off the plate"),
+            (5, 0, 8, "work short"),
+            (6, 0, 8, "full"),
+            (10, 3, 8, "marks inconsistent"),
+            (10, long / 2 - 1, long, "marks inconsistent"),
+            (11, 3, 8, "vertex missing"),
+            (11, 65_534, long, "vertex missing"),
+        ] {
+            let refusal = accepted_contours(number, place, coordinates as usize).unwrap_err();
+            assert_eq!((refusal.number(), refusal.place(), refusal.word()), (number, place, word));
+        }
+        assert_eq!(accepted_contours(0, 0, 8), Ok(()));
+        let refusal = Refusal::PathOffThePlate { place: long };
+        assert_eq!(refusal.to_string(), "off the plate (refusal 4, place 1099511627776)");
+        let refusal = Refusal::MarksInconsistent { place: 3 };
+        assert_eq!(refusal.to_string(), "marks inconsistent (refusal 10, place 3)");
+        for (number, place, coordinates) in [
+            (0, 1, 8),
+            (1, 0, 8),
+            (2, 0, 8),
+            (3, 1, 8),
+            (4, 8, 8),
+            (5, 1, 8),
+            (6, 1, 8),
+            (10, 4, 8),
+            (10, 3, 7),
+            (11, 4, 8),
+            (11, 65_535, long),
+            (12, 0, 8),
+            (13, 0, 8),
+        ] {
+            let outcome =
+                std::panic::catch_unwind(|| accepted_contours(number, place, coordinates as usize));
+            assert!(outcome.is_err(), "number {number}, place {place} passed");
+        }
+        for number in [10, 11] {
+            assert!(std::panic::catch_unwind(|| accepted(number, 0)).is_err());
+            assert!(std::panic::catch_unwind(|| accepted_plate(number, 0, 9)).is_err());
+            assert!(std::panic::catch_unwind(|| accepted_path(number, 0, 9)).is_err());
+        }
     }
 
     #[test]

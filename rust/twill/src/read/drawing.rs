@@ -16,6 +16,18 @@ pub struct Drawing {
     pub bytes: Vec<usize>,
 }
 
+impl Drawing {
+    /// The path points.
+    pub fn points(&self) -> &[[f64; 2]] {
+        self.path.as_chunks().0
+    }
+
+    /// Their kinds and references.
+    pub fn numbers(&self) -> &[[u32; 2]] {
+        self.marks.as_chunks().0
+    }
+}
+
 /// The words for kinds, in the order of their numbers.
 const KINDS: [&str; 5] = ["start", "cut", "back-step", "jump", "touch"];
 

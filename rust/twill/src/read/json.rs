@@ -27,7 +27,7 @@ pub fn read(text: &str) -> Result<Plate, Remark> {
 }
 
 /// Reads a path with its marks from an object with `path` and `marks`. What else it holds is
-/// skipped: it is told of the plate that is given beside the path.
+/// skipped: the path and its marks are all that is read of it.
 pub fn read_path(text: &str) -> Result<Drawing, Remark> {
     let mut reader = Reader { text, at: 0, plate: Plate::default() };
     if text.starts_with('\u{FEFF}') {

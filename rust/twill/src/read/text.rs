@@ -5,53 +5,52 @@
 //! `start outside` or `start home X Y` give the plate's size and strategy, `layer N` the layer of
 //! the contours from there on, and `#` begins a comment.
 
-use super::excerpt;
-use crate::number;
+use super::cursor::Cursor;
 use crate::plate::{Layer, Plate, Remark};
 use twillharbor::{HIGHEST_LAYER, Point, StartPointStrategy};
 
+/// What ends a word, beside blanks.
+const SIGNS: &str = ",()|#";
+
 pub fn read(text: &str) -> Result<Plate, Remark> {
-    let mut reader = Reader { text, at: 0, plate: Plate::default(), apart: true };
-    if text.starts_with('\u{FEFF}') {
-        reader.at = '\u{FEFF}'.len_utf8();
-    }
-    while reader.at < text.len() {
+    let cursor = Cursor::new(text, SIGNS);
+    let mut reader = Reader { cursor, plate: Plate::default(), apart: true };
+    while reader.cursor.at < text.len() {
         reader.line()?;
     }
     Ok(reader.plate)
 }
 
 struct Reader<'a> {
-    text: &'a str,
-    at: usize,
+    cursor: Cursor<'a>,
     plate: Plate,
     /// Whether the next point begins a contour.
     apart: bool,
 }
 
-impl<'a> Reader<'a> {
+impl Reader<'_> {
     /// Reads a line and goes to the next.
     fn line(&mut self) -> Result<(), Remark> {
-        self.skip_blanks();
-        if self.line_end().is_some() {
+        self.cursor.skip_blanks();
+        if self.cursor.line_end().is_some() {
             self.apart = true;
-        } else if matches!(self.word(), "size" | "start" | "layer") {
+        } else if matches!(self.cursor.word(), "size" | "start" | "layer") {
             self.setting()?;
         }
         loop {
-            if let Some(length) = self.line_end() {
-                self.at += length;
+            if let Some(length) = self.cursor.line_end() {
+                self.cursor.at += length;
                 return Ok(());
             }
-            match self.peek() {
+            match self.cursor.peek() {
                 Some('#') => self.skip_comment(),
                 Some('(') => self.bracketed()?,
-                Some(_) if self.word() == "empty" => self.empty()?,
+                Some(_) if self.cursor.word() == "empty" => self.empty()?,
                 Some(_) => self.bare()?,
                 None => {}
             }
-            self.skip_blanks();
-            if self.peek() == Some('|') {
+            self.cursor.skip_blanks();
+            if self.cursor.peek() == Some('|') {
                 self.bar()?;
             }
         }
@@ -60,16 +59,16 @@ impl<'a> Reader<'a> {
     /// A contour has ended, and another follows, perhaps on a further line.
     fn bar(&mut self) -> Result<(), Remark> {
         self.apart = true;
-        self.at += 1;
-        self.skip_blanks();
-        match self.text[self.at..].trim_start().chars().next() {
-            Some('|') | None => Err(self.expected("a contour")),
+        self.cursor.at += 1;
+        self.cursor.skip_blanks();
+        match self.cursor.rest().trim_start().chars().next() {
+            Some('|') | None => Err(self.cursor.expected("a contour")),
             Some(_) => Ok(()),
         }
     }
 
     fn empty(&mut self) -> Result<(), Remark> {
-        self.at += "empty".len();
+        self.cursor.at += "empty".len();
         self.plate.begin();
         self.apart = true;
         self.item_end("empty")
@@ -78,69 +77,49 @@ impl<'a> Reader<'a> {
     /// A point without brackets is the last of its line: in `1,5 2,5` or in a third column
     /// another mistake would go unseen.
     fn bare(&mut self) -> Result<(), Remark> {
-        let byte = self.at;
-        let (x, y) = self.coordinates()?;
-        self.push(x, y, byte);
+        let byte = self.cursor.at;
+        let at = self.cursor.coordinates()?;
+        self.push(at, byte);
         self.item_end("a point without brackets")
     }
 
     fn bracketed(&mut self) -> Result<(), Remark> {
-        let byte = self.at;
-        self.at += 1;
-        let (x, y) = self.coordinates()?;
-        if !self.take(')') {
-            return Err(self.expected("`)`"));
-        }
-        self.push(x, y, byte);
+        let byte = self.cursor.at;
+        self.cursor.at += 1;
+        let at = self.cursor.coordinates()?;
+        self.cursor.close()?;
+        self.push(at, byte);
         Ok(())
     }
 
-    fn push(&mut self, x: f64, y: f64, byte: usize) {
+    fn push(&mut self, at: Point, byte: usize) {
         if self.apart {
             self.plate.begin();
             self.apart = false;
         }
-        self.plate.push(x, y, byte);
-    }
-
-    fn coordinates(&mut self) -> Result<(f64, f64), Remark> {
-        let x = self.coordinate("x")?;
-        self.take(',');
-        Ok((x, self.coordinate("y")?))
+        self.plate.push(at.x, at.y, byte);
     }
 
     /// Nothing follows but another contour, a comment or the end of the line.
     fn item_end(&mut self, item: &str) -> Result<(), Remark> {
-        self.skip_blanks();
-        match self.peek() {
+        self.cursor.skip_blanks();
+        match self.cursor.peek() {
             Some('|' | '#') => Ok(()),
-            _ if self.line_end().is_some() => Ok(()),
-            _ => Err(self.expected(&format!("`|` or the end of the line after {item}"))),
-        }
-    }
-
-    fn coordinate(&mut self, name: &str) -> Result<f64, Remark> {
-        self.skip_blanks();
-        let word = self.word();
-        match number::parse(word) {
-            Some(value) => {
-                self.at += word.len();
-                Ok(value)
-            }
-            None => Err(self.expected(&format!("a number as {name}"))),
+            _ if self.cursor.line_end().is_some() => Ok(()),
+            _ => Err(self.cursor.expected(&format!("`|` or the end of the line after {item}"))),
         }
     }
 
     /// A line that gives the plate's size or strategy, or a layer, which may change.
     fn setting(&mut self) -> Result<(), Remark> {
-        let byte = self.at;
-        let word = self.word();
-        self.at += word.len();
+        let byte = self.cursor.at;
+        let word = self.cursor.word();
+        self.cursor.at += word.len();
         self.apart = true;
         let is_twice = match word {
             "size" => {
-                let width = self.whole("width", u32::MAX)?;
-                let height = self.whole("height", u32::MAX)?;
+                let width = self.cursor.whole("width", u32::MAX)?;
+                let height = self.cursor.whole("height", u32::MAX)?;
                 self.plate.height = Some(height);
                 self.plate.width.replace(width).is_some()
             }
@@ -149,43 +128,29 @@ impl<'a> Reader<'a> {
                 self.plate.strategy.replace(strategy).is_some()
             }
             _ => {
-                self.plate.layer = Layer::new(self.whole("layer", HIGHEST_LAYER)?, byte);
+                self.plate.layer = Layer::new(self.cursor.whole("layer", HIGHEST_LAYER)?, byte);
                 false
             }
         };
         if is_twice {
             return Err(Remark::new(byte, format!("the {word} is given twice")));
         }
-        self.skip_blanks();
-        match self.peek() {
+        self.cursor.skip_blanks();
+        match self.cursor.peek() {
             Some('#') => Ok(()),
-            _ if self.line_end().is_some() => Ok(()),
-            _ => Err(self.expected("the end of the line")),
-        }
-    }
-
-    /// A whole number. The most that it may be is told; a layer above it is the library's to
-    /// refuse.
-    fn whole(&mut self, name: &str, most: u32) -> Result<u32, Remark> {
-        self.skip_blanks();
-        let word = self.word();
-        match number::whole(word) {
-            Some(value) => {
-                self.at += word.len();
-                Ok(value)
-            }
-            None => Err(self.expected(&format!("as {name} a whole number from 0 to {most}"))),
+            _ if self.cursor.line_end().is_some() => Ok(()),
+            _ => Err(self.cursor.expected("the end of the line")),
         }
     }
 
     fn strategy(&mut self) -> Result<StartPointStrategy, Remark> {
-        self.skip_blanks();
-        let word = self.word();
+        self.cursor.skip_blanks();
+        let word = self.cursor.word();
         let strategy = crate::plate::strategy(word);
         if strategy.is_none() && word != "home" {
-            return Err(self.expected("`inside`, `outside` or `home`"));
+            return Err(self.cursor.expected("`inside`, `outside` or `home`"));
         }
-        self.at += word.len();
+        self.cursor.at += word.len();
         match strategy {
             Some(strategy) => Ok(strategy),
             None => self.home().map(StartPointStrategy::Home),
@@ -194,66 +159,19 @@ impl<'a> Reader<'a> {
 
     /// The parked point, in brackets or not.
     fn home(&mut self) -> Result<Point, Remark> {
-        self.skip_blanks();
-        self.plate.home_byte = Some(self.at);
-        let is_bracketed = self.take('(');
-        let (x, y) = self.coordinates()?;
-        if is_bracketed && !self.take(')') {
-            return Err(self.expected("`)`"));
+        self.cursor.skip_blanks();
+        self.plate.home_byte = Some(self.cursor.at);
+        let is_bracketed = self.cursor.take('(');
+        let home = self.cursor.coordinates()?;
+        if is_bracketed {
+            self.cursor.close()?;
         }
-        Ok(Point { x, y })
-    }
-
-    fn peek(&self) -> Option<char> {
-        self.text[self.at..].chars().next()
-    }
-
-    fn take(&mut self, expected: char) -> bool {
-        self.skip_blanks();
-        let is_there = self.peek() == Some(expected);
-        if is_there {
-            self.at += expected.len_utf8();
-        }
-        is_there
-    }
-
-    /// What stands here, up to a blank or one of the form's signs.
-    fn word(&self) -> &'a str {
-        let rest = &self.text[self.at..];
-        let is_end = |c: char| c.is_whitespace() || matches!(c, ',' | '(' | ')' | '|' | '#');
-        &rest[..rest.find(is_end).unwrap_or(rest.len())]
-    }
-
-    fn expected(&self, what: &str) -> Remark {
-        let found = match (self.word(), self.peek()) {
-            (_, None) => "the end of the file".into(),
-            _ if self.line_end().is_some() => "the end of the line".into(),
-            ("", Some(sign)) => format!("`{}`", sign.escape_debug()),
-            (word, _) => format!("`{}`", excerpt(word)),
-        };
-        Remark::new(self.at, format!("expected {what}, not {found}"))
-    }
-
-    /// The length of a line's end, if one stands here; the file's end is one too.
-    fn line_end(&self) -> Option<usize> {
-        match self.text.as_bytes()[self.at..] {
-            [] => Some(0),
-            [b'\r', b'\n', ..] => Some(2),
-            [b'\n' | b'\r', ..] => Some(1),
-            _ => None,
-        }
-    }
-
-    /// Skips blanks within the line.
-    fn skip_blanks(&mut self) {
-        let rest = &self.text[self.at..];
-        let is_other = |c: char| matches!(c, '\n' | '\r') || !c.is_whitespace();
-        self.at += rest.find(is_other).unwrap_or(rest.len());
+        Ok(home)
     }
 
     fn skip_comment(&mut self) {
-        let rest = &self.text[self.at..];
-        self.at += rest.find(['\n', '\r']).unwrap_or(rest.len());
+        let rest = self.cursor.rest();
+        self.cursor.at += rest.find(['\n', '\r']).unwrap_or(rest.len());
     }
 }
 

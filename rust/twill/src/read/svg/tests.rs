@@ -657,7 +657,7 @@ fn depth_and_number_are_not_limited() {
     assert_eq!(read(&format!("<svg{attributes}>{groups}</svg>")), Ok(Plate::default()));
     let sheets = ["<style>".repeat(deep), "</style>".repeat(deep)].concat();
     assert_eq!(read(&format!("<svg>{sheets}</svg>")), Ok(Plate::default()));
-    assert!(before.elapsed() < Duration::from_secs(20), "{:?}", before.elapsed());
+    assert!(before.elapsed() < Duration::from_secs(60), "{:?}", before.elapsed());
 }
 
 /// The numbers of the contours' layers.

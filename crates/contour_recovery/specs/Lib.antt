@@ -1,0 +1,2 @@
+pub mod ContourRecovery
+pub mod RecoveredContours

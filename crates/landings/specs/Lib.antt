@@ -1,0 +1,4 @@
+pub mod Falling
+pub mod Chain
+pub mod Holds
+pub mod Read

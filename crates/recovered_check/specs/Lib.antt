@@ -1,0 +1,4 @@
+pub mod Runs
+pub mod Vertices
+pub mod Entries
+pub mod Theorem

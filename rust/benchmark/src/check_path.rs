@@ -3,23 +3,15 @@
 
 use std::hint::black_box;
 
-use harness::plates::rows;
-use twillharbor::{Refusal, Size, StartPointStrategy, check_path_with, check_path_work, retrace};
+use twillharbor::{Refusal, check_path_with, check_path_work};
 
-use crate::plates::{fastest, print};
+use crate::plates::{Retraced, fastest, print, retraced};
 
 const ROUNDS: usize = 25;
 
 pub fn report() {
-    for (contours, points, per_row) in [(200, 50, 10), (4_000, 16, 40)] {
-        let (points_of, lengths) = rows(contours, points, per_row);
-        let drawn = retrace(&points_of, &lengths, Size::default(), StartPointStrategy::Inside)
-            .expect("the rows are a sound plate");
-        let path: Vec<f64> = drawn.points().iter().flat_map(|p| [p.x, p.y]).collect();
-        let marks: Vec<u32> = drawn.marks().iter().flat_map(|mark| mark.numbers()).collect();
-        let count = drawn.counts().points;
-        println!("{contours} contours of {points} points, {per_row} to a row: {count} path points");
-        compare(&points_of, &lengths, &path, &marks);
+    for Retraced { points, lengths, path, marks } in retraced() {
+        compare(&points, &lengths, &path, &marks);
     }
 }
 

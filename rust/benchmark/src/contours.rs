@@ -4,28 +4,20 @@
 
 use std::hint::black_box;
 
-use harness::plates::rows;
-use twillharbor::{Size, StartPointStrategy, contours_into, contours_work, retrace};
+use twillharbor::{contours_into, contours_work};
 
 use crate::plain_contours::{Tables, recover};
-use crate::plates::{fastest, print};
+use crate::plates::{Retraced, fastest, print, retraced};
 
 const ROUNDS: usize = 25;
 const VERTICES: usize = 65_536;
 
 pub fn report() {
-    for (contours, points, per_row) in [(200, 50, 10), (4_000, 16, 40)] {
-        let (points_of, lengths) = rows(contours, points, per_row);
-        let drawn = retrace(&points_of, &lengths, Size::default(), StartPointStrategy::Inside)
-            .expect("the rows are a sound plate");
-        let path: Vec<f64> = drawn.points().iter().flat_map(|p| [p.x, p.y]).collect();
-        let marks: Vec<u32> = drawn.marks().iter().flat_map(|mark| mark.numbers()).collect();
-        let count = drawn.counts().points;
-        println!("{contours} contours of {points} points, {per_row} to a row: {count} path points");
-        let mut slices = Slices::new(count);
-        slices.compare(&path, &marks, Ok([points_of.len() as u32 / 2, lengths.len() as u32]));
+    for Retraced { points, lengths, path, marks } in retraced() {
+        let mut slices = Slices::new(path.len() / 2);
+        slices.compare(&path, &marks, Ok([points.len() as u32 / 2, lengths.len() as u32]));
         for lent in [&slices.proved, &slices.rust] {
-            assert!(lent.held() == (&points_of[..], &lengths[..]), "the contours differ");
+            assert!(lent.held() == (&points[..], &lengths[..]), "the contours differ");
         }
     }
     for count in [256, 1_024, 4_096, VERTICES / 2] {

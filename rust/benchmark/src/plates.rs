@@ -12,7 +12,7 @@ use harness::random::Random;
 use mujou_reference::join::door::join_straight_line;
 use mujou_reference::optimize::optimize_path_order;
 use mujou_reference::types::{self, Dimensions, Polyline};
-use twillharbor::{Plate, Size, StartPointStrategy};
+use twillharbor::{Plate, Size, StartPointStrategy, retrace};
 
 const CONTOURS: usize = 4_000;
 const POINTS: usize = 16;
@@ -58,6 +58,28 @@ fn compare(points: &[f64], lengths: &[u32]) {
     );
     print("straight", times);
     assert!(same(&path, &join_straight_line(&contours, inside, dims)), "the paths differ");
+}
+
+/// A plate, and the path that retrace gives it.
+pub struct Retraced {
+    pub points: Vec<f64>,
+    pub lengths: Vec<u32>,
+    pub path: Vec<f64>,
+    pub marks: Vec<u32>,
+}
+
+/// The two plates of document 02's ticket 10, each told in a line as it comes.
+pub fn retraced() -> impl Iterator<Item = Retraced> {
+    [(200, 50, 10), (4_000, 16, 40)].into_iter().map(|(contours, each, per_row)| {
+        let (points, lengths) = rows(contours, each, per_row);
+        let drawn = retrace(&points, &lengths, Size::default(), StartPointStrategy::Inside)
+            .expect("the rows are a sound plate");
+        let path = drawn.points().iter().flat_map(|p| [p.x, p.y]).collect();
+        let marks = drawn.marks().iter().flat_map(|mark| mark.numbers()).collect();
+        let count = drawn.counts().points;
+        println!("{contours} contours of {each} points, {per_row} to a row: {count} path points");
+        Retraced { points, lengths, path, marks }
+    })
 }
 
 /// The fastest round of each. They take turns, so that what else the machine does meets both.

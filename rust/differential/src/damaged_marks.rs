@@ -4,6 +4,7 @@ use harness::random::Random;
 
 use crate::decoder::Marked;
 use crate::floats::nudged;
+use crate::other_paths::miscount;
 use crate::plates;
 use crate::rule::retrace::{BACK_STEP, CUT, JUMP, TOUCH};
 
@@ -76,7 +77,7 @@ pub fn damaged(
 ) -> Option<Marked> {
     let mut copy = marked.clone();
     if damage == Damage::Miscounted {
-        miscount(&mut copy, random);
+        miscount(&mut copy.path, &mut copy.marks, random);
         return differs(&copy, marked).then_some(copy);
     }
     // A second damage may find slices that do not match.
@@ -104,21 +105,6 @@ fn place_in(third: usize, count: usize, random: &mut Random) -> usize {
     let from = |third: usize| third * count / THIRDS.len();
     let (first, end) = (from(third), from(third + 1).max(from(third) + 1));
     (first + random.below((end - first) as u64) as usize).min(count - 1)
-}
-
-fn miscount(marked: &mut Marked, random: &mut Random) {
-    let change = 1 + random.below(4) as usize;
-    let (path, marks) = (marked.path.len(), marked.marks.len());
-    match random.below(5) {
-        0 => marked.path.truncate(path.saturating_sub(change)),
-        1 => marked.marks.truncate(marks.saturating_sub(change)),
-        2 => marked.path.resize(path + change, 0.0),
-        3 => marked.marks.resize(marks + change, 0),
-        _ => {
-            marked.path.resize(path + change, 0.0);
-            marked.marks.resize(marks + change, 0);
-        }
-    }
 }
 
 /// A path that is damaged at a place.

@@ -230,7 +230,7 @@ pub const DAMAGES: [(Damage, &str); 15] = [
 pub fn damaged(handed: &Handed, damage: Damage, random: &mut Random) -> Handed {
     let mut copy = handed.clone();
     if damage == Damage::SlicesMiscounted {
-        miscount(&mut copy, random);
+        miscount(&mut copy.path, &mut copy.marks, random);
         return copy;
     }
     let mut path = copy.path.as_chunks().0.to_vec();
@@ -247,17 +247,18 @@ pub fn damaged(handed: &Handed, damage: Damage, random: &mut Random) -> Handed {
     copy
 }
 
-fn miscount(handed: &mut Handed, random: &mut Random) {
+/// Makes one of the slices, or both, longer or shorter.
+pub fn miscount(path: &mut Vec<f64>, marks: &mut Vec<u32>, random: &mut Random) {
     let change = 1 + random.below(4) as usize;
-    let (path, marks) = (handed.path.len(), handed.marks.len());
+    let (in_path, in_marks) = (path.len(), marks.len());
     match random.below(5) {
-        0 => handed.path.truncate(path.saturating_sub(change)),
-        1 => handed.marks.truncate(marks.saturating_sub(change)),
-        2 => handed.path.resize(path + change, 0.0),
-        3 => handed.marks.resize(marks + change, 0),
+        0 => path.truncate(in_path.saturating_sub(change)),
+        1 => marks.truncate(in_marks.saturating_sub(change)),
+        2 => path.resize(in_path + change, 0.0),
+        3 => marks.resize(in_marks + change, 0),
         _ => {
-            handed.path.resize(path + change, 0.0);
-            handed.marks.resize(marks + change, 0);
+            path.resize(in_path + change, 0.0);
+            marks.resize(in_marks + change, 0);
         }
     }
 }

@@ -6,7 +6,7 @@ use std::path::Path;
 fn main() {
     let dir = env::var("DEP_TWILLHARBOR_LIB_DIR")
         .expect("the package twillharbor says where it links from");
-    for name in ["float_c", "grid_c", "caches_c"] {
+    for name in ["run_float_c", "run_grid_c", "run_caches_c"] {
         let archive = Path::new(&dir).join(format!("lib{name}.a"));
         println!("cargo::rerun-if-changed={}", archive.display());
         if !archive.is_file() {

@@ -11,14 +11,14 @@ use Rattle.rules.specs.SamplesAndCache.{Cache, Waiting, samples, keep, ask_path,
 use Rattle.rules.specs.declared.Nearest.{Nearest}
 use Rattle.rules.specs.declared.Point.{Point}
 use Rattle.rules.specs.declared.SpatialGrid.{SpatialGrid}
-use Rattle.layout.specs.Laid.{Laid}
-use Rattle.layout.specs.Parts.{from}
-use Rattle.layout.specs.declared.Layout.{Layout}
-use Rattle.samples.specs.Plated.{from_kept}
+use Rattle.work_layout.specs.Laid.{Laid}
+use Rattle.work_layout.specs.Parts.{from}
+use Rattle.work_layout.specs.declared.Layout.{Layout}
+use Rattle.samples.specs.PlatedSlice.{from_kept}
 use Rattle.samples.specs.Walks.{fold_from}
-use Rattle.caches.specs.Held.{Held, held, held_at, held_of}
-use Rattle.prepare.specs.Holds.{Holds, Changed}
-use Rattle.caches.specs.Moved.{tried, tried_in, Moved}
+use Rattle.caches.specs.HeldCache.{Held, held, held_at, held_of}
+use Rattle.waiting.specs.Holds.{Holds, Changed}
+use Rattle.caches.specs.CacheMoves.{tried, tried_in, Moved}
 use Rattle.caches.proofs.Contours.{every, asks, seeds, updates}
 
 module _ (xs : List Float) (g : SpatialGrid) (lay : Layout) (ds : List Float) (w : List ℕ) (laid : Laid lay (length w)) (ds' : List Float) (w' : List ℕ) where

@@ -20,8 +20,8 @@ use Rattle.samples.specs.Chains.{is_in_cell}
 use Rattle.samples.specs.Owners.{Owned}
 use Rattle.samples.specs.Vertices.{vertex_from}
 use Rattle.samples.specs.Walks.{fold_from, fold_split, fold_idle}
-use Rattle.caches.specs.Held.{Held, held, held_of, replaced}
-use Rattle.caches.specs.Moved.{tried, tried_in}
+use Rattle.caches.specs.HeldCache.{Held, held, held_of, replaced}
+use Rattle.caches.specs.CacheMoves.{tried, tried_in}
 use Rattle.caches.proofs.Tries.{tried_other, tried_own}
 
 -- every vertex

@@ -7,4 +7,3 @@ pub mod Sweeps
 pub mod Walks
 pub mod Changes
 pub mod Nearby
-pub mod Leaving

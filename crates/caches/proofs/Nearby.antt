@@ -10,17 +10,17 @@ use Rattle.rules.specs.HandedOver.{Plate, Contour, at, vertex_at}
 use Rattle.rules.specs.SamplesAndCache.{ask_path, update, cell_at, cells_around}
 use Rattle.rules.specs.declared.Point.{Point}
 use Rattle.rules.specs.declared.SpatialGrid.{SpatialGrid}
-use Rattle.layout.specs.Laid.{Laid}
-use Rattle.layout.specs.Parts.{from, KeptBelow, KeptFrom}
-use Rattle.layout.specs.declared.Layout.{Layout}
+use Rattle.work_layout.specs.Laid.{Laid}
+use Rattle.work_layout.specs.Parts.{from, KeptBelow, KeptFrom}
+use Rattle.work_layout.specs.declared.Layout.{Layout}
 use Rattle.samples.specs.Vertices.{vertex_from, vertices_of}
-use Rattle.listing.specs.Listing.{list_of, Lists}
-use Rattle.history.specs.Appending.{ready_kept}
-use Rattle.prepare.specs.Holds.{Holds, Changed}
-use Rattle.caches.specs.Moved.{tried_in, Moved}
-use Rattle.caches.specs.Querying.{Querying}
-use Rattle.prepare.specs.Prepared.{prepared_kept}
-use Rattle.prepare.specs.Staying.{holds_kept}
+use Rattle.neighbours.specs.CellList.{list_of, Lists}
+use Rattle.history.specs.OneMorePoint.{ready_kept}
+use Rattle.waiting.specs.Holds.{Holds, Changed}
+use Rattle.caches.specs.CacheMoves.{tried_in, Moved}
+use Rattle.caches.specs.QueryNeeds.{Querying}
+use Rattle.prepare.specs.PreparedSlices.{prepared_kept}
+use Rattle.prepare.specs.SlicesKept.{holds_kept}
 use Rattle.caches.proofs.Changes.{updated_all}
 
 module _ (xs : List Float) (g : SpatialGrid) (lay : Layout) (turn : ℕ) (c : Contour) (w w₁ : List ℕ) (n : ℕ) (laid : Laid lay (length w))

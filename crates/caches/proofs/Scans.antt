@@ -9,14 +9,14 @@ use Rattle.rules.specs.HandedOver.{at}
 use Rattle.rules.specs.SamplesAndCache.{cell_at}
 use Rattle.rules.specs.declared.Nearest.{Nearest}
 use Rattle.rules.specs.declared.SpatialGrid.{SpatialGrid}
-use Rattle.layout.specs.Laid.{Laid}
-use Rattle.layout.specs.Parts.{from}
-use Rattle.layout.specs.declared.Layout.{Layout}
+use Rattle.work_layout.specs.Laid.{Laid}
+use Rattle.work_layout.specs.Parts.{from}
+use Rattle.work_layout.specs.declared.Layout.{Layout}
 use Rattle.samples.specs.Chains.{first_of, is_in_cell}
-use Rattle.samples.specs.Walks.{fold_from, Step, fold_none, fold_first}
-use Rattle.prepare.specs.Prepared.{Prepared}
-use Rattle.caches.specs.Held.{Held, held_at}
-use Rattle.caches.specs.Moved.{tried, tried_in, Moved}
+use Rattle.samples.specs.Walks.{fold_from, FoldStep, fold_none, fold_first}
+use Rattle.prepare.specs.PreparedSlices.{Prepared}
+use Rattle.caches.specs.HeldCache.{Held, held_at}
+use Rattle.caches.specs.CacheMoves.{tried, tried_in, Moved}
 use Rattle.caches.proofs.Reaches.{Reached, reached_step, reached_end, same_owners}
 
 -- how far a cursor, 1 more than a vertex number or 0, is from the end of n vertices
@@ -43,15 +43,16 @@ module _ (xs : List Float) (g : SpatialGrid) (lay : Layout) (ask : ℕ → Neare
     pub at_next : cursor ≡ first_of (is_in_cell (from w₀ lay.owners) (cell_at (at xs) g) cell) (lay.points - next) next
     pub reached : Reached lay ds₀ w₀ ds w (from_on next) (from_on 0)
 
+module _ {xs : List Float} {g : SpatialGrid} {lay : Layout} {cell : ℕ} {ds₀ : List Float} {w₀ : List ℕ} where
   module _ (prepared : Prepared xs g lay ds₀ w₀) (inside : cell < lay.cells) where
     laid : Laid lay (length w₀)
     laid = prepared.plated.laid
 
-    module _ (ds : List Float) (w : List ℕ) (cursor : ℕ) (s : Scan ds w cursor) where
+    module _ {ask : ℕ → Nearest} {ds : List Float} {w : List ℕ} {cursor : ℕ} (s : Scan xs g lay ask cell ds₀ w₀ ds w cursor) where
       module _ (some : cursor ≡ 0 → ⊥) where
         -- the cursor's vertex is the first that is left
         step : (j : ℕ) (k : Held) →
-            Step (is_in_cell (from w₀ lay.owners) (cell_at (at xs) g) cell) (tried (from w₀ lay.owners) ask j) (lay.points - s.next) s.next k (cursor - 1)
+            FoldStep (is_in_cell (from w₀ lay.owners) (cell_at (at xs) g) cell) (tried (from w₀ lay.owners) ask j) (lay.points - s.next) s.next k (cursor - 1)
         step j k = let e : cursor ≡ suc (cursor - 1) = omega arith in fold_first _ _ _ _ _ (cursor - 1) (sym s.at_next ∙ e)
 
         abbrev held₀ : Held
@@ -64,20 +65,20 @@ module _ (xs : List Float) (g : SpatialGrid) (lay : Layout) (ask : ℕ → Neare
             ≡ first_of (is_in_cell (from w₀ lay.owners) (cell_at (at xs) g) cell) (lay.points - suc (cursor - 1)) (suc (cursor - 1))
         link = prepared.chained.succ cell (cursor - 1) inside (omega arith) scan_in (step 0 held₀).passes
 
-        module _ (ds' : List Float) (w' : List ℕ) (m : Moved lay ds w ds' w' (λ j. tried (from w lay.owners) ask j (cursor - 1))) where
+        module _ {ds' : List Float} {w' : List ℕ} (m : Moved lay ds w ds' w' (λ j. tried (from w lay.owners) ask j (cursor - 1))) where
           next_link : from w' lay.next (cursor - 1) ≡ from w₀ lay.next (cursor - 1)
           next_link =
               m.above (lay.next + (cursor - 1)) (omega (arith, laid)) ∙ s.reached.above (lay.next + (cursor - 1)) (omega (arith, laid))
 
-          pub scan_step : length w' ≡ length w → length ds' ≡ length ds → Scan ds' w' (from w' lay.next (cursor - 1))
+          pub scan_step : length w' ≡ length w → length ds' ≡ length ds → Scan xs g lay ask cell ds₀ w₀ ds' w' (from w' lay.next (cursor - 1))
           scan_step ew ed =
               record {
                 next = suc (cursor - 1);
                 most = omega (arith, scan_in);
                 at_next = next_link ∙ link;
                 reached =
-                    reached_step lay ds₀ w₀ laid ds w _ _ s.reached ds' w' (λ j. tried (from w₀ lay.owners) ask j (cursor - 1)) _
-                    (rw (same_owners lay ds₀ w₀ laid ds w _ _ s.reached) at m) ew ed
+                    reached_step laid s.reached (λ j. tried (from w₀ lay.owners) ask j (cursor - 1))
+                    (rw (same_owners laid s.reached) at m) ew ed
                     (λ j k.
                     let e : s.next + (lay.points - s.next) - suc (cursor - 1) ≡ lay.points - suc (cursor - 1) = omega (arith, s.most) in
                     rw e at (step j k).fold);
@@ -94,4 +95,4 @@ module _ (xs : List Float) (g : SpatialGrid) (lay : Layout) (ask : ℕ → Neare
           let owner = from w₀ lay.owners in
           let e : lay.points - 0 ≡ lay.points = omega arith in
           subst (λ (n : ℕ). Moved lay ds₀ w₀ ds w (λ j k. fold_from (is_in_cell owner (cell_at (at xs) g) cell) (tried owner ask j) n 0 k)) e
-          (reached_end lay ds₀ w₀ laid ds w _ _ s.reached (λ j k. fold_none _ _ _ _ k (sym s.at_next ∙ z)))
+          (reached_end laid s.reached (λ j k. fold_none _ _ _ _ k (sym s.at_next ∙ z)))

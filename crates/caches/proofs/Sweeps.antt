@@ -8,12 +8,12 @@ use lib.ListN.{length}
 use lib.Ieee.{Float}
 use Rattle.rules.specs.Tools.{pick}
 use Rattle.rules.specs.declared.Nearest.{Nearest}
-use Rattle.layout.specs.Laid.{Laid}
-use Rattle.layout.specs.Parts.{from}
-use Rattle.layout.specs.declared.Layout.{Layout}
+use Rattle.work_layout.specs.Laid.{Laid}
+use Rattle.work_layout.specs.Parts.{from}
+use Rattle.work_layout.specs.declared.Layout.{Layout}
 use Rattle.samples.specs.Walks.{fold_from}
-use Rattle.caches.specs.Held.{Held}
-use Rattle.caches.specs.Moved.{tried, Moved}
+use Rattle.caches.specs.HeldCache.{Held}
+use Rattle.caches.specs.CacheMoves.{tried, Moved}
 use Rattle.caches.proofs.Contours.{every}
 use Rattle.caches.proofs.Reaches.{Reached, reached_step, reached_end, same_owners}
 
@@ -35,16 +35,16 @@ module _ (owner : ℕ → ℕ) (ask : ℕ → Nearest) (n v j : ℕ) (k : Held) 
   unfolding from_on fold_from
   no_more l = let e : n - v ≡ 0 = omega arith in rw e
 
-module _ (lay : Layout) (ask : ℕ → Nearest) (ds₀ : List Float) (w₀ : List ℕ) (laid : Laid lay (length w₀)) where
-  module _ (ds : List Float) (w : List ℕ) (v : ℕ) (s : Sweep lay ask ds₀ w₀ ds w v) where
-    pub sweep_step : v < lay.points → (ds' : List Float) (w' : List ℕ) → Moved lay ds w ds' w' (λ j. tried (from w lay.owners) ask j v) →
+module _ {lay : Layout} {ask : ℕ → Nearest} {ds₀ : List Float} {w₀ : List ℕ} (laid : Laid lay (length w₀)) where
+  module _ {ds : List Float} {w : List ℕ} {v : ℕ} (s : Sweep lay ask ds₀ w₀ ds w v) where
+    pub sweep_step : v < lay.points → {ds' : List Float} {w' : List ℕ} → Moved lay ds w ds' w' (λ j. tried (from w lay.owners) ask j v) →
         length w' ≡ length w → length ds' ≡ length ds → Sweep lay ask ds₀ w₀ ds' w' (v + 1)
-    sweep_step l ds' w' m ew ed =
+    sweep_step l m ew ed =
         record {
           most = omega arith;
           reached =
-              reached_step lay ds₀ w₀ laid ds w _ _ s.reached ds' w' (λ j. tried (from w₀ lay.owners) ask j v) _
-              (rw (same_owners lay ds₀ w₀ laid ds w _ _ s.reached) at m) ew ed (λ j k. one_more (from w₀ lay.owners) ask lay.points v j k l);
+              reached_step laid s.reached (λ j. tried (from w₀ lay.owners) ask j v)
+              (rw (same_owners laid s.reached) at m) ew ed (λ j k. one_more (from w₀ lay.owners) ask lay.points v j k l);
         }
 
     pub sweep_end : lay.points ≤ v → Moved lay ds₀ w₀ ds w (λ j. fold_from every (tried (from w₀ lay.owners) ask j) lay.points 0)
@@ -53,4 +53,4 @@ module _ (lay : Layout) (ask : ℕ → Nearest) (ds₀ : List Float) (w₀ : Lis
         let owner = from w₀ lay.owners in
         let e : lay.points - 0 ≡ lay.points = omega arith in
         subst (λ (n : ℕ). Moved lay ds₀ w₀ ds w (λ j k. fold_from every (tried owner ask j) n 0 k)) e
-        (reached_end lay ds₀ w₀ laid ds w _ _ s.reached (λ j k. no_more owner ask lay.points v j k l))
+        (reached_end laid s.reached (λ j k. no_more owner ask lay.points v j k l))

@@ -10,10 +10,10 @@ use lib.Ieee.{Float, nan}
 use borrow.Author.Tests.{eq-eqb, ne_eqb}
 use Rattle.rules.specs.Tools.{pick}
 use Rattle.rules.specs.declared.Nearest.{Nearest}
-use Rattle.layout.specs.Parts.{from}
-use Rattle.layout.specs.declared.Layout.{Layout}
-use Rattle.caches.specs.Held.{Held, held, held_at, replaced}
-use Rattle.caches.specs.Moved.{tried, Moved}
+use Rattle.work_layout.specs.Parts.{from}
+use Rattle.work_layout.specs.declared.Layout.{Layout}
+use Rattle.caches.specs.HeldCache.{Held, held, held_at, replaced}
+use Rattle.caches.specs.CacheMoves.{tried, Moved}
 
 module _ (owner : ℕ → ℕ) (ask : ℕ → Nearest) (j v : ℕ) (k : Held) where
   pub tried_other : (owner v ≡ suc j → ⊥) → tried owner ask j v k ≡ k
@@ -24,7 +24,7 @@ module _ (owner : ℕ → ℕ) (ask : ℕ → Nearest) (j v : ℕ) (k : Held) wh
   unfolding tried pick
   tried_own h = rw (eq-eqb (owner v) (suc j) h)
 
-module _ (lay : Layout) (owner : ℕ → ℕ) (ask : ℕ → Nearest) (v : ℕ) (ds : List Float) (w : List ℕ) where
+module _ {lay : Layout} (owner : ℕ → ℕ) (ask : ℕ → Nearest) (v : ℕ) {ds : List Float} {w : List ℕ} where
   -- it is no sample
   pub moved_none : owner v ≡ 0 → Moved lay ds w ds w (λ j. tried owner ask j v)
   moved_none h = record { held = λ j l u. sym (tried_other owner ask j v _ (λ e. omega arith)); below = λ i l. refl; above = λ i l. refl }
@@ -39,12 +39,12 @@ module _ (lay : Layout) (owner : ℕ → ℕ) (ask : ℕ → Nearest) (v : ℕ) 
       }
 
   -- its contour waits
-  pub moved_own : (o : ℕ) (ds' : List Float) (w' : List ℕ) → owner v ≡ suc o → o < length ds → lay.entries + o < length w → lay.entries + o < lay.heads →
+  pub moved_own : (o : ℕ) {ds' : List Float} {w' : List ℕ} → owner v ≡ suc o → o < length ds → lay.entries + o < length w → lay.entries + o < lay.heads →
       (let k = replaced (held (get_or ds o nan) (get_or w (lay.entries + o) 0)) v (ask v) in
       (ds' ≡ set ds o k.squared) × (w' ≡ set w (lay.entries + o) k.entry)) →
       Moved lay ds w ds' w' (λ j. tried owner ask j v)
   unfolding held held_at
-  moved_own o ds' w' h hd hw hh q =
+  moved_own o {ds' = ds'} {w' = w'} h hd hw hh q =
       record {
         held = λ j l u. after j (ℕ_discrete j o);
         below = λ i l. ap (λ (x : List ℕ). get_or x i 0) q.1 ∙ get_or-set_other w (lay.entries + o) i _ 0 (λ e. omega arith);

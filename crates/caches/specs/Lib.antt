@@ -1,5 +1,6 @@
-pub mod Held
-pub mod Moved
-pub mod Querying
-pub mod Framed
-pub mod Cut
+pub mod HeldCache
+pub mod CacheMoves
+pub mod QueryNeeds
+pub mod FrameCaches
+pub mod CutPath
+pub mod OneStopped

@@ -3,31 +3,34 @@
 
 ghost use Rattle.std.specs.Prelude.{◌≡◌, ℕ, ◌+◌, ◌*◌, ◌/◌, ◌≤◌, ◌<◌, List, Float, length, get_or, set};
 ghost use Rattle.std.specs.Float.{nan};
+ghost use Rattle.rules.specs.Limits.{fixed_work, most_cells, most_path_points};
 ghost use Rattle.rules.specs.Tools.{foldl, sum};
 ghost use Rattle.rules.specs.HandedOver.{Plate, contours_from, vertex_at};
 ghost use Rattle.rules.specs.SamplesAndCache.{waiting, cells_around, seed, update};
-ghost use Rattle.path.specs.Accepted.{Accepted};
-ghost use Rattle.path.specs.FiniteDistances.{OnPlate};
-ghost use Rattle.path.specs.Lists.{All};
-ghost use Rattle.start.specs.Oriented.{contour_of};
-ghost use Rattle.layout.specs.Parts.{from, KeptBelow, KeptFrom};
-ghost use Rattle.listing.specs.Listing.{list_of};
+ghost use Rattle.plate_laws.specs.Accepted.{Accepted};
+ghost use Rattle.plate_laws.specs.FiniteDistances.{OnPlate};
+ghost use Rattle.plate_laws.specs.Lists.{All};
+ghost use Rattle.contours.specs.ContourOf.{contour_of};
+ghost use Rattle.work_layout.specs.Parts.{from, KeptBelow, KeptFrom};
+ghost use Rattle.neighbours.specs.CellList.{list_of};
 ghost use Rattle.history.specs.History as history;
 ghost use Rattle.history.specs.History.{Ready};
-ghost use Rattle.prepare.specs.Framed.{PreparedBy, HoldsBy, ChangedBy};
-ghost use Rattle.caches.specs.Held.{held, replaced};
-ghost use Rattle.caches.specs.Moved.{tried, Moved};
-ghost use Rattle.caches.specs.Framed.{QueryingBy, asked_by, tried_in_cell};
+ghost use Rattle.prepare.specs.FrameSlices.{PreparedBy, HoldsBy, ChangedBy};
+ghost use Rattle.waiting.specs.Waits.{stopped};
+ghost use Rattle.caches.specs.HeldCache.{held, replaced};
+ghost use Rattle.caches.specs.CacheMoves.{tried, Moved};
+ghost use Rattle.caches.specs.FrameCaches.{QueryingBy, asked_by, tried_in_cell};
 
+use contours::ContourRange;
 use grid::Grid;
 use history::clear;
-use layout::laid_out;
-use listing::list_cells;
 use nearest::nearest;
+use neighbours::list_cells;
 use prepare::prepare;
-use rules::{Nearest, Vertex, point_at};
+use rules::{MOST_CELLS, Nearest, Vertex, point_at};
 use samples::Frame;
-use start::Contour;
+use waiting::{stop_waiting, waits};
+use work_layout::laid_out;
 
 // The slices before the start: no point is on the path, and every contour waits.
 pub fn set_up<'a>(
@@ -39,13 +42,14 @@ pub fn set_up<'a>(
     work: &mut [u32],
 ) -> Frame<'a>
     requires accepted { Accepted points.now lengths.now }
-    requires small { room ≤ 1048576 }
+    requires small { room ≤ most_path_points }
     requires distances_room { length lengths.now ≤ length distances.old }
-    requires work_room { room + 4 * sum lengths.now + 8 * length lengths.now + 16384 ≤ length work.old }
+    requires work_room { room + 4 * sum lengths.now + 8 * length lengths.now + fixed_work ≤ length work.old }
     ensures points { result.points.now ≡ points.now }
     ensures grid { result.grid.spatial ≡ grid.spatial }
-    ensures parts { (result.layout.flags ≡ 2916 + room) × (result.layout.points ≡ sum lengths.now)
-        × (result.layout.contours ≡ length lengths.now) }
+    ensures start { result.layout.flags ≡ most_cells + room }
+    ensures counted { result.layout.points ≡ sum lengths.now }
+    ensures many { result.layout.contours ≡ length lengths.now }
     ensures prepared { PreparedBy result distances.new work.new }
     ensures ready { (path : List Float) → Ready grid.spatial path work.new 0 }
     ensures flags { (k : ℕ) → k < result.layout.cells → from work.new result.layout.flags k ≡ 0 }
@@ -55,7 +59,7 @@ pub fn set_up<'a>(
 {
     let cells = (grid.spatial.cols as usize) * (grid.spatial.rows as usize);
     let layout = laid_out(
-        2916 + (room as usize),
+        MOST_CELLS + (room as usize),
         points.len() / 2,
         cells,
         lengths.len(),
@@ -72,8 +76,9 @@ pub fn set_up<'a>(
 
 // What the path answers for a vertex.
 fn ask(frame: &Frame<'_>, work: &[u32], v: Vertex, path: &[f64]) -> Nearest
-    requires { (2 * v.0 + 1 < length frame.now.points.now) × (All OnPlate frame.now.points.now)
-        × (Ready frame.now.grid.spatial path.now work.now (length path.now / 2)) }
+    requires vertex { 2 * v.0 + 1 < length frame.now.points.now }
+    requires on_plate { All OnPlate frame.now.points.now }
+    requires ready { Ready frame.now.grid.spatial path.now work.now (length path.now / 2) }
     ensures { result ≡ asked_by frame.now path.now v.0 }
 {
     nearest(frame.grid, path, work, point_at(frame.points, v))
@@ -82,7 +87,8 @@ fn ask(frame: &Frame<'_>, work: &[u32], v: Vertex, path: &[f64]) -> Nearest
 // Replaces contour j's cache, whose entry lies at e, by what was found at vertex v, if that is strictly nearer.
 // An entry is a vertex's number, since what the caller lends is a slice of u32.
 fn improve(distances: &mut [f64], work: &mut [u32], j: usize, e: usize, v: Vertex, found: Nearest)
-    requires { (j < length distances.old) × (e < length work.old) }
+    requires contour { j < length distances.old }
+    requires place { e < length work.old }
     ensures { let k = replaced (held (get_or distances.old j nan) (get_or work.old e 0)) v.0 found in
         (distances.new ≡ set distances.old j k.squared) × (work.new ≡ set work.old e k.entry) }
 {
@@ -95,26 +101,27 @@ fn improve(distances: &mut [f64], work: &mut [u32], j: usize, e: usize, v: Verte
 }
 
 // Queries a vertex for its contour, if it is a sample and the contour waits.
-// A vertex's owner is 0, or one more than a contour's number, and the length of a contour that waits no more is 0: a lent u32 holds no `Option`.
+// A vertex's owner is 0, or one more than a contour's number: a lent u32 holds no `Option`.
 // The two lent slices stay parameters: a struct of them would add to each contract that they stay the same slices.
 fn try_sample(frame: &Frame<'_>, distances: &mut [f64], work: &mut [u32], v: Vertex, path: &[f64])
-    requires { (QueryingBy frame.now distances.old work.old path.now) × (v.0 < frame.now.layout.points) }
+    requires querying { QueryingBy frame.now distances.old work.old path.now }
+    requires vertex { v.0 < frame.now.layout.points }
     ensures { let w = work.old in
         Moved frame.now.layout distances.old w distances.new work.new
         (λ j. tried (from w frame.now.layout.owners) (asked_by frame.now path.now) j v.0) }
 {
     let lay = frame.layout;
     let o = lay.owners + (v.0 as usize);
-    let owner = work[o] as usize;
+    let owner = work[o];
     if owner == 0 {
         return;
     }
-    let j = owner - 1;
-    let a = lay.waiting + j;
-    if work[a] == 0 {
+    let number = owner - 1;
+    if !waits(&*work, lay, number) {
         return;
     }
     let found = ask(frame, &*work, v, path);
+    let j = number as usize;
     let e = lay.entries + j;
     improve(&mut *distances, &mut *work, j, e, v, found);
 }
@@ -122,9 +129,10 @@ fn try_sample(frame: &Frame<'_>, distances: &mut [f64], work: &mut [u32], v: Ver
 // After the start: queries every sample of every waiting contour.
 pub fn seed_caches(frame: &Frame<'_>, distances: &mut [f64], work: &mut [u32], path: &[f64])
     requires { QueryingBy frame.now distances.old work.old path.now }
-    ensures { (ChangedBy frame.now distances.old work.old distances.new work.new
-        (λ p c. seed p frame.now.grid.spatial (history.points path.now (length path.now / 2)) c))
-        × (KeptBelow frame.now.layout.entries work.old work.new) × (KeptFrom frame.now.layout.heads work.old work.new) }
+    ensures changed { ChangedBy frame.now distances.old work.old distances.new work.new
+        (λ p c. seed p frame.now.grid.spatial (history.points path.now (length path.now / 2)) c) }
+    ensures below { KeptBelow frame.now.layout.entries work.old work.new }
+    ensures above { KeptFrom frame.now.layout.heads work.old work.new }
 {
     let n = frame.layout.points as u32;
     for v in 0..n {
@@ -135,7 +143,8 @@ pub fn seed_caches(frame: &Frame<'_>, distances: &mut [f64], work: &mut [u32], p
 // Queries the samples of a cell, in the order of their vertices: by contour, then vertex.
 // The links of a chain lie in the lent slice of u32, for the library has no heap: it is walked by hand, and 0 ends it.
 fn scan_cell(frame: &Frame<'_>, distances: &mut [f64], work: &mut [u32], cell: u32, path: &[f64])
-    requires { (QueryingBy frame.now distances.old work.old path.now) × (cell < frame.now.layout.cells) }
+    requires querying { QueryingBy frame.now distances.old work.old path.now }
+    requires cell { cell < frame.now.layout.cells }
     ensures { let w = work.old in
         Moved frame.now.layout distances.old w distances.new work.new (λ j k. tried_in_cell frame.now w path.now j k cell) }
 {
@@ -152,8 +161,9 @@ fn scan_cell(frame: &Frame<'_>, distances: &mut [f64], work: &mut [u32], cell: u
 
 // Queries the samples of the cells listed, cell by cell. By index, for the listed cells lie in the slice that `scan_cell` writes.
 fn scan_listed(frame: &Frame<'_>, distances: &mut [f64], work: &mut [u32], cells: u32, path: &[f64])
-    requires { (QueryingBy frame.now distances.old work.old path.now) × (cells ≤ frame.now.layout.cells)
-        × ((i : ℕ) → i < cells → from work.old frame.now.layout.list i < frame.now.layout.cells) }
+    requires querying { QueryingBy frame.now distances.old work.old path.now }
+    requires few { cells ≤ frame.now.layout.cells }
+    requires inside { (i : ℕ) → i < cells → from work.old frame.now.layout.list i < frame.now.layout.cells }
     ensures { let w = work.old in
         Moved frame.now.layout distances.old w distances.new work.new
         (λ j k. foldl (tried_in_cell frame.now w path.now j) k (list_of frame.now.layout w cells)) }
@@ -171,16 +181,18 @@ pub fn update_nearby_caches(
     distances: &mut [f64],
     work: &mut [u32],
     turn: u32,
-    c: Contour,
+    c: ContourRange,
     path: &[f64],
 )
-    requires { (QueryingBy frame.now distances.old work.old path.now) × (c.first.0 + c.last < frame.now.layout.points)
-        × ((k : ℕ) → k < frame.now.layout.cells → from work.old frame.now.layout.flags k < turn) }
-    ensures { (ChangedBy frame.now distances.old work.old distances.new work.new
+    requires querying { QueryingBy frame.now distances.old work.old path.now }
+    requires within { c.first.0 + c.last < frame.now.layout.points }
+    requires flags { (k : ℕ) → k < frame.now.layout.cells → from work.old frame.now.layout.flags k < turn }
+    ensures changed { ChangedBy frame.now distances.old work.old distances.new work.new
         (λ p d. update p frame.now.grid.spatial (history.points path.now (length path.now / 2))
-        (cells_around (vertex_at p (contour_of c)) frame.now.grid.spatial c.last) d))
-        × (KeptBelow frame.now.layout.flags work.old work.new) × (KeptFrom frame.now.layout.heads work.old work.new)
-        × ((k : ℕ) → k < frame.now.layout.cells → from work.new frame.now.layout.flags k ≤ turn) }
+        (cells_around (vertex_at p (contour_of c)) frame.now.grid.spatial c.last) d) }
+    ensures kept { KeptBelow frame.now.layout.flags work.old work.new }
+    ensures above { KeptFrom frame.now.layout.heads work.old work.new }
+    ensures flags { (k : ℕ) → k < frame.now.layout.cells → from work.new frame.now.layout.flags k ≤ turn }
 {
     let cells = list_cells(frame, &mut *work, turn, c);
     scan_listed(frame, &mut *distances, &mut *work, cells as u32, path);
@@ -192,7 +204,7 @@ pub fn settle(
     distances: &mut [f64],
     work: &mut [u32],
     turn: u32,
-    c: Contour,
+    c: ContourRange,
     path: &[f64],
 )
     requires querying { QueryingBy frame.now distances.old work.old path.now }
@@ -200,14 +212,13 @@ pub fn settle(
     requires within { c.first.0 + c.last < frame.now.layout.points }
     requires flags { (k : ℕ) → k < frame.now.layout.cells → from work.old frame.now.layout.flags k < turn }
     ensures prepared { PreparedBy frame.now distances.new work.new }
-    ensures changed { ChangedBy frame.now distances.old (set work.old (frame.now.layout.waiting + c.number) 0) distances.new work.new
+    ensures changed { ChangedBy frame.now distances.old (stopped frame.now.layout work.old c.number) distances.new work.new
         (λ p d. update p frame.now.grid.spatial (history.points path.now (length path.now / 2))
         (cells_around (vertex_at p (contour_of c)) frame.now.grid.spatial c.last) d) }
     ensures kept { KeptBelow frame.now.layout.flags work.old work.new }
-    ensures above { KeptFrom frame.now.layout.heads (set work.old (frame.now.layout.waiting + c.number) 0) work.new }
+    ensures above { KeptFrom frame.now.layout.heads (stopped frame.now.layout work.old c.number) work.new }
     ensures flags { (k : ℕ) → k < frame.now.layout.cells → from work.new frame.now.layout.flags k ≤ turn }
 {
-    let a = frame.layout.waiting + (c.number as usize);
-    work[a] = 0;
+    stop_waiting(&mut *work, frame.layout, c.number);
     update_nearby_caches(frame, &mut *distances, &mut *work, turn, c, path);
 }

@@ -8,7 +8,7 @@ use Rattle.chains.specs.Cells.{is_in_cell, in_cell_is}
 use Rattle.chains.specs.Chains.{Chained}
 
 -- At a cursor, which is 0 or one more than a place that passes: the best so far and the best of the places below the cursor make up the total.
-pub record Walking (P : ℕ → Bool) (key : ℕ → ℕ) (count : ℕ) (total best : Hit) (cursor : ℕ) : Type 0 where
+pub record ChainWalk (P : ℕ → Bool) (key : ℕ → ℕ) (count : ℕ) (total best : Hit) (cursor : ℕ) : Type 0 where
   pub within : cursor ≤ count
   pub last : last_of P cursor ≡ cursor
   pub rest : better best (best_of P key cursor) ≡ total
@@ -24,15 +24,15 @@ best_last key P (suc n) = go (P n) refl (best_last key P n)
     go false w h = best_out key P n w ∙ h
 
 walking_at : (P : ℕ → Bool) (key : ℕ → ℕ) (count : ℕ) (total best : Hit) (n cursor : ℕ) → n ≤ count → cursor ≡ last_of P n →
-    better best (best_of P key n) ≡ total → Walking P key count total best cursor
+    better best (best_of P key n) ≡ total → ChainWalk P key count total best cursor
 walking_at P key count total best n cursor h e t =
     rw e record { within = omega (arith, last_le P n); last = last_last P n; rest = ap (better best) (sym (best_last key P n)) ∙ t }
 
 module _ (head link : ℕ → ℕ) (cells : ℕ) (cell : ℕ → ℕ) (count c : ℕ) (h : Chained head link cells cell count) (hc : c < cells) where
-  pub walk_start : (key : ℕ → ℕ) (best : Hit) → Walking (is_in_cell cell c) key count (better best (best_of (is_in_cell cell c) key count)) best (head c)
+  pub walk_start : (key : ℕ → ℕ) (best : Hit) → ChainWalk (is_in_cell cell c) key count (better best (best_of (is_in_cell cell c) key count)) best (head c)
   walk_start key best = walking_at (is_in_cell cell c) key count _ best count (head c) (omega arith) (h.heads c hc) refl
 
-  module _ (key : ℕ → ℕ) (total best : Hit) (cursor : ℕ) (w : Walking (is_in_cell cell c) key count total best cursor) (some : cursor ≡ 0 → ⊥) where
+  module _ (key : ℕ → ℕ) (total best : Hit) (cursor : ℕ) (w : ChainWalk (is_in_cell cell c) key count total best cursor) (some : cursor ≡ 0 → ⊥) where
     before : suc (cursor - 1) ≡ cursor
     before = omega arith
 
@@ -47,12 +47,12 @@ module _ (head link : ℕ → ℕ) (cells : ℕ) (cell : ℕ → ℕ) (count c :
     pub walk_falls : link (cursor - 1) < cursor
     walk_falls = rw linked (omega (arith, last_le (is_in_cell cell c) (cursor - 1)))
 
-    pub walk_next : (r : Hit) → r ≡ better best (hit (cursor - 1) (key (cursor - 1))) → Walking (is_in_cell cell c) key count total r (link (cursor - 1))
+    pub walk_next : (r : Hit) → r ≡ better best (hit (cursor - 1) (key (cursor - 1))) → ChainWalk (is_in_cell cell c) key count total r (link (cursor - 1))
     walk_next r e =
         walking_at (is_in_cell cell c) key count total r (cursor - 1) (link (cursor - 1)) (omega (arith, w.within)) linked
         (rw (e, better_assoc, ← best_in key (is_in_cell cell c) (cursor - 1) passes, before) w.rest)
 
-pub walk_done : (P : ℕ → Bool) (key : ℕ → ℕ) (count : ℕ) (total best : Hit) (cursor : ℕ) → Walking P key count total best cursor → cursor ≡ 0 →
+pub walk_done : (P : ℕ → Bool) (key : ℕ → ℕ) (count : ℕ) (total best : Hit) (cursor : ℕ) → ChainWalk P key count total best cursor → cursor ≡ 0 →
     best ≡ total
 unfolding best_of
 walk_done P key count total best cursor w z = sym (better_miss best) ∙ (rw z at w.rest)

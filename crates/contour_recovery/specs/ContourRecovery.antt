@@ -1,21 +1,25 @@
 -- The contours of a path with marks (document 02, ticket 6): the vertices of its path points, the rules of marks in the words and the order of that document, the
--- contours, the refusals, and the call. The last part says what is to be proved: RoundTripByRules, RoundTrip, RecoveredDivides, RecoveredAccepted. Definitions only.
+-- contours, the refusals, and the call. The last part says what is to be proved: RoundTripByRules, RoundTrip, RecoveredDivides, RecoveredDividesByVertices,
+-- RecoveredAccepted. Definitions only.
 use Rattle.std.specs.Prelude.{◌≡◌, Bool, not, ◌&&◌, ◌||◌, List, [], ◌∷◌, map, ℕ, zero, suc, ◌+◌, ◌-◌, ◌*◌, ◌/◌, ◌≤◌, max, leb, ltb, eqb, length, take, get_or, Float, Result, Ok, Err}
 use Rattle.std.specs.Bool.{beq}
+use Rattle.rules.specs.Limits.{most_contours, highest_vertex}
 use Rattle.rules.specs.Tools.{pick, sum, any, first_failing, up_from}
 use Rattle.rules.specs.HandedOver.{Plate, at, contours_of, contours, Answer, gives, refuses, RefusalRow, row, refused_by, off_the_plate, work_short, no_room, over, written}
 use Rattle.rules.specs.Bits.{same_point}
-use Rattle.rules.specs.RetraceAndMarks.{start_kind, cut_kind, back_step_kind, jump_kind, touch_kind, coincide, retrace, coordinates, marks, kind_at, reference_at}
-use Rattle.rules.specs.Calls.{vertices, retrace_call}
-use Rattle.statement.specs.PathStatement.{contour_count, vertices_after, cuts_of}
+use Rattle.rules.specs.Retrace.{retrace}
+use Rattle.rules.specs.Marks.{start_kind, cut_kind, back_step_kind, jump_kind, touch_kind, coincide, coordinates, marks, kind_at, reference_at, vertices, vertices_after, vertex_in, cuts_of, enters}
+use Rattle.rules.specs.Calls.{retrace_call}
+use Rattle.rules.specs.Contours.{contour_count}
+use Rattle.statement.specs.Division.{itself, NotEntered, Division}
 use Rattle.statement.specs.HowNear.{IsAccepted}
-use Rattle.statement.specs.PathCheck.{enters, DividesByPoints, miscounted_path, check_call}
+use Rattle.statement.specs.PathCheck.{DividesByPoints, miscounted_path, check_call}
 use Rattle.rules.specs.declared.Recovered.{Recovered}
 use Rattle.rules.specs.declared.RecoveryRefusal.{RecoveryRefusal}
 use Rattle.rules.specs.declared.RecoveryRefusal.TheVariants.{PathMiscounted, PathOffThePlate, PathWorkShort, MarksInconsistent, VertexMissing, NoRoom}
 use Rattle.rules.specs.declared.Totals.{Totals}
 
--- ---- vertices: ms are the marks of a path, and vs the vertices of its path points by them (PathStatement's `named`)
+-- ---- vertices: ms are the marks of a path, and vs the vertices of its path points by them (`named` of Marks)
 
 -- Path point j lands on vertex v: by a start, a jump, a touch or a cut.
 unfoldable pub lands_on : List ℕ → List ℕ → ℕ → ℕ → Bool
@@ -41,7 +45,7 @@ known_kind ms i = leb (kind_at ms i) touch_kind
 
 -- No vertex is above 65,535.
 unfoldable pub vertex_in_range : List ℕ → ℕ → Bool
-vertex_in_range vs i = leb (get_or vs i 0) 65535
+vertex_in_range vs i = leb (get_or vs i 0) highest_vertex
 
 -- Before a cut stands a point with one end of its segment, ..
 unfoldable pub cuts_from_an_end : List ℕ → List ℕ → ℕ → Bool
@@ -205,12 +209,21 @@ RecoveredDivides =
     o.answer ≡ gives r →
     DividesByPoints (contours_of (take r.contours o.lengths)) (take (2 * r.points) o.points) (length path / 2) path ms
 
+-- By its vertices it divides over them too, as the path statement says of a path that the retrace call finishes.
+unfoldable pub RecoveredDividesByVertices : Type 0
+RecoveredDividesByVertices =
+    (path : List Float) (ms : List ℕ) (points : List Float) (lengths : List ℕ) (w : ℕ) (r : Recovered) →
+    let o = recovery_call path ms points lengths w in
+    o.answer ≡ gives r →
+    let v = vertex_in ms in
+    Division (contours_of (take r.contours o.lengths)) (at path) itself v (NotEntered v) (length path / 2) ms
+
 -- So the check of a path accepts it, if there are not more contours than the check takes, and work for it.
 unfoldable pub RecoveredAccepted : Type 0
 RecoveredAccepted =
     (path : List Float) (ms : List ℕ) (points : List Float) (lengths : List ℕ) (w work : ℕ) (r : Recovered) →
     let o = recovery_call path ms points lengths w in
     o.answer ≡ gives r →
-    r.contours ≤ 4096 →
+    r.contours ≤ most_contours →
     r.points + r.contours ≤ work →
     check_call (take (2 * r.points) o.points) (take r.contours o.lengths) path ms work ≡ gives tt

@@ -6,12 +6,10 @@ use Rattle.std.specs.Float.Ieee.{neg, le, eq, of_int}
 use Rattle.rules.specs.Tools.{pick, sum, any, first_failing}
 use Rattle.rules.specs.HandedOver.{at, Answer, gives, refuses, refused_by, in_range, plate_limit, first_off, out_of_range, off_the_plate, work_short, no_room, over, written}
 use Rattle.rules.specs.Bits.{same_exponent, same_float, same_point}
-use Rattle.rules.specs.RetraceAndMarks.{coincide, count_marks, coordinates, kind_at, reference_at}
-use Rattle.rules.specs.MarkedPlates.{whole, ◌∣◌, along, points_of, pairs}
-use Rattle.statement.specs.PathStatement.{named, vertices_after, cuts_of}
-use Rattle.statement.specs.PathCheck.{enters, miscounted_path}
-use Rattle.contour_recovery.specs.ContourRecovery.{lands_on, landed, only_where, known_kind, vertex_in_range, cuts_from_an_end, returns_over_a_pair, starts_first, lands_once}
-use Rattle.contour_recovery.specs.ContourRecovery.{returns_to_bits, jumps_apart, consistent, vertex_count, landing_place, recovered_points, lengthen, runs, is_cut}
+use Rattle.rules.specs.Marks.{coincide, count_marks, coordinates, kind_at, reference_at, named, vertices_after, cuts_of, enters}
+use Rattle.rules.specs.Plates.{whole, ◌∣◌, along, points_of, pairs}
+use Rattle.statement.specs.PathCheck.{miscounted_path}
+use Rattle.contour_recovery.specs.ContourRecovery.{lands_on, landed, only_where, known_kind, vertex_in_range, cuts_from_an_end, returns_over_a_pair, starts_first, lands_once, returns_to_bits, jumps_apart, consistent, vertex_count, landing_place, recovered_points, lengthen, runs, is_cut}
 use Rattle.contour_recovery.specs.ContourRecovery.{recovered_lengths, marks_inconsistent, vertex_missing, recovery_call, recovery_answer}
 use Rattle.rules.specs.declared.Recovered.{Recovered}
 use Rattle.rules.specs.declared.RecoveryRefusal.TheVariants.{PathMiscounted, PathOffThePlate, PathWorkShort, MarksInconsistent, VertexMissing, NoRoom}
@@ -209,7 +207,7 @@ unfolding
     neg le eq of_int
     -- Tools, HandedOver
     pick sum any first_failing at in_range plate_limit first_off refused_by out_of_range off_the_plate work_short no_room over written
-    -- Bits, RetraceAndMarks, PathStatement, PathCheck
+    -- Bits, Marks, PathCheck
     same_exponent same_float same_point coincide count_marks coordinates kind_at reference_at named vertices_after cuts_of enters miscounted_path
     -- ContourRecovery
     lands_on landed only_where known_kind vertex_in_range cuts_from_an_end returns_over_a_pair starts_first lands_once returns_to_bits jumps_apart consistent

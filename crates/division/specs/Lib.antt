@@ -1,10 +1,8 @@
-pub mod Says
-pub mod SameBits
-pub mod MarkCounts
-pub mod Rules
-pub mod Checks
-pub mod Deciding
+pub mod Kinds
 pub mod Tallies
 pub mod Counts
+pub mod RulesKept
+pub mod NotDrawn
+pub mod EnteredFirst
 pub mod ByPoints
 pub mod Theorem

@@ -9,17 +9,17 @@ use native.Mathlib.Omega.{arith}
 use Rattle.std.proofs.Math.Dec.{T}
 use Rattle.rules.specs.Tools.{pick, sum, up_from}
 use Rattle.rules.specs.HandedOver.{Contour}
-use Rattle.rules.specs.RetraceAndMarks.{start_kind, cut_kind, back_step_kind, jump_kind, touch_kind, count_marks, marks_of, kind_at, reference_at}
-use Rattle.statement.specs.PathStatement.{Among, OfOne, cuts_of, IsJumpOrTouch, PairOf}
-use Rattle.statement.specs.PathCheck.{enters, is_of, entries_of, marks_before}
+use Rattle.rules.specs.Marks.{start_kind, cut_kind, back_step_kind, jump_kind, touch_kind, count_marks, marks_of, kind_at, reference_at, cuts_of, enters, entries_of, marks_before}
+use Rattle.statement.specs.Division.{IsJumpOrTouch, PairOf}
+use Rattle.rules.specs.Contours.{Among, OfOne, is_of}
 use Rattle.rules.specs.declared.Point.{Point}
-use Rattle.path.specs.Lists.{All, all_of, all_give}
-use Rattle.path.specs.Sums.{sum_zeros, indicator, sum_absent, sum_once}
-use Rattle.path.specs.Contours.{Rising, Apart, others, others_apart, sum_others}
-use Rattle.division.specs.Says.{Says, says_by, says_and, says_one, says_leb, says_ltb, says_eqb}
-use Rattle.division.specs.MarkCounts.{pick_one, pick_zero, passing, count_step, count_all}
-use Rattle.division.specs.Rules.{says_of}
-use Rattle.division.specs.Deciding.{no_entry}
+use Rattle.plate_laws.specs.Lists.{All, all_of, all_give}
+use Rattle.plate_laws.specs.Sums.{sum_zeros, sum_same, indicator, sum_absent, sum_once}
+use Rattle.plate_laws.specs.Contours.{Rising, Apart, others, others_apart, sum_others}
+use Rattle.division_laws.specs.Says.{Says, says_by, says_and, says_one, says_leb, says_ltb, says_eqb}
+use Rattle.division_laws.specs.MarkCounts.{pick_one, pick_zero, passing, count_step, count_all}
+use Rattle.division_laws.specs.Rules.{says_of}
+use Rattle.division.specs.Kinds.{no_entry}
 
 -- ---- sums
 
@@ -27,11 +27,6 @@ pub sum_add : {A : Type 0} (f g : A → ℕ) (xs : List A) → sum (map (λ x. f
 unfolding sum
 sum_add f g [] = refl
 sum_add f g (x ∷ xs) = omega (arith, sum_add f g xs)
-
-pub sum_same : {A : Type 0} (f g : A → ℕ) (xs : List A) → All (λ x. f x ≡ g x) xs → sum (map f xs) ≡ sum (map g xs)
-unfolding sum
-sum_same f g [] a = refl
-sum_same f g (x ∷ xs) a = omega (arith, a.0, sum_same f g xs a.1)
 
 -- as much as there are, and none more than 1: each is 1
 sum_most : {A : Type 0} (f : A → ℕ) (xs : List A) → All (λ x. f x ≤ 1) xs → sum (map f xs) ≤ length xs
@@ -110,22 +105,22 @@ abbrev SegmentOf : List Contour → ℕ → Type 0
 SegmentOf cs r = (c : Contour) × Among c cs × (c.first ≤ r) × (r < c.first + c.last)
 
 -- of a mark after the first: what it names is a segment, or a vertex, of one of the contours
-abbrev Names : List Contour → ℕ → ℕ → Type 0
-Names cs kind r = ((kind ≡ cut_kind) × SegmentOf cs r) ⊎ (kind ≡ back_step_kind) ⊎ (IsJumpOrTouch kind × OfOne cs r)
+abbrev NamesOne : List Contour → ℕ → ℕ → Type 0
+NamesOne cs kind r = ((kind ≡ cut_kind) × SegmentOf cs r) ⊎ (kind ≡ back_step_kind) ⊎ (IsJumpOrTouch kind × OfOne cs r)
 
 -- the marks of n path points
 pub record Sorted (cs : List Contour) (n : ℕ) (ms : List ℕ) : Type 0 where
   pub whole : length ms ≡ 2 * n
   pub start : 0 < n → (kind_at ms 0 ≡ start_kind) × OfOne cs (reference_at ms 0)
-  pub pairs : (k : ℕ) → suc k < n → Names cs (kind_at ms (suc k)) (reference_at ms (suc k))
+  pub pairs : (k : ℕ) → suc k < n → NamesOne cs (kind_at ms (suc k)) (reference_at ms (suc k))
 
 -- the mark of a pair
-pub pair_names : {A : Type 0} (cs : List Contour) (x : ℕ → Point) (u v : ℕ → A) (Fresh : Contour → Type 0) (k kind r : ℕ) →
-    PairOf cs x u v Fresh k kind r → Names cs kind r
-pair_names cs x u v Fresh k kind r (inl (e, c)) = inl (e, c.segment)
-pair_names cs x u v Fresh k kind r (inr (inl (e, b))) = inr (inl e)
-pair_names cs x u v Fresh k kind r (inr (inr (inl j, f))) = let s = f.fresh in inr (inr (inl j.0, (s.0, s.1, s.2)))
-pair_names cs x u v Fresh k kind r (inr (inr (inr j, f))) = let s = f.fresh in inr (inr (inr j.0, (s.0, s.1, s.2)))
+pub pair_names : {A : Type 0} {cs : List Contour} (x : ℕ → Point) {u v : ℕ → A} {New : Contour → Type 0} {k kind r : ℕ} →
+    PairOf cs x u v New k kind r → NamesOne cs kind r
+pair_names x (inl (e, c)) = inl (e, c.segment)
+pair_names x (inr (inl (e, b))) = inr (inl e)
+pair_names x (inr (inr (inl j, f))) = let s = f.fresh in inr (inr (inl j.0, (s.0, s.1, s.2)))
+pair_names x (inr (inr (inr j, f))) = let s = f.fresh in inr (inr (inr j.0, (s.0, s.1, s.2)))
 
 abbrev pub entering : ℕ → ℕ → Bool
 entering kind r = enters kind
@@ -176,7 +171,7 @@ run_one true a n r = go (dec_le a r) (dec_le (suc r) (a + n))
     go (yes x) (no y) = outside (λ h. y h.1)
     go (no x) y = outside (λ h. x h.0)
 
-module _ (cs : List Contour) (rising : Rising cs) (n : ℕ) (ms : List ℕ) (s : Sorted cs n ms) where
+module _ {cs : List Contour} (rising : Rising cs) {n : ℕ} {ms : List ℕ} (s : Sorted cs n ms) where
   room : (i : ℕ) → i < n → 2 * suc i ≤ length ms
   room i l = omega (arith, s.whole)
 
@@ -185,16 +180,16 @@ module _ (cs : List Contour) (rising : Rising cs) (n : ℕ) (ms : List ℕ) (s :
   entry_of zero l t = (s.start l).1
   entry_of (suc k) l t = go (s.pairs k l)
     where
-      go : Names cs (kind_at ms (suc k)) (reference_at ms (suc k)) → OfOne cs (reference_at ms (suc k))
-      go (inl (e, x)) = absurd (no_entry (kind_at ms (suc k)) (inl e) t)
-      go (inr (inl e)) = absurd (no_entry (kind_at ms (suc k)) (inr e) t)
+      go : NamesOne cs (kind_at ms (suc k)) (reference_at ms (suc k)) → OfOne cs (reference_at ms (suc k))
+      go (inl (e, x)) = absurd (no_entry (inl e) t)
+      go (inr (inl e)) = absurd (no_entry (inr e) t)
       go (inr (inr (e, x))) = x
 
   cut_of : (i : ℕ) → i < n → T (eqb (kind_at ms i) cut_kind) → SegmentOf cs (reference_at ms i)
   cut_of zero l t = absurd (omega (arith, eqb→eq (kind_at ms 0) cut_kind t, (s.start l).0))
   cut_of (suc k) l t = go (s.pairs k l)
     where
-      go : Names cs (kind_at ms (suc k)) (reference_at ms (suc k)) → SegmentOf cs (reference_at ms (suc k))
+      go : NamesOne cs (kind_at ms (suc k)) (reference_at ms (suc k)) → SegmentOf cs (reference_at ms (suc k))
       go (inl (e, x)) = x
       go (inr (inl e)) = absurd (omega (arith, eqb→eq (kind_at ms (suc k)) cut_kind t, e))
       go (inr (inr (inl e, x))) = absurd (omega (arith, eqb→eq (kind_at ms (suc k)) cut_kind t, e))
@@ -232,7 +227,7 @@ module _ (cs : List Contour) (rising : Rising cs) (n : ℕ) (ms : List ℕ) (s :
   one_kind zero l = rw (s.start l).0 refl
   one_kind (suc k) l = go (s.pairs k l)
     where
-      go : Names cs (kind_at ms (suc k)) (reference_at ms (suc k)) →
+      go : NamesOne cs (kind_at ms (suc k)) (reference_at ms (suc k)) →
           passing entering ms (suc k) + passing (of_kind cut_kind) ms (suc k) + passing (of_kind back_step_kind) ms (suc k) ≡ 1
       go (inl (e, x)) = rw e refl
       go (inr (inl e)) = rw e refl
@@ -264,7 +259,7 @@ module _ (cs : List Contour) (rising : Rising cs) (n : ℕ) (ms : List ℕ) (s :
   unfolding pick enters
   landing k l = go (s.pairs k l)
     where
-      go : Names cs (kind_at ms (suc k)) (reference_at ms (suc k)) →
+      go : NamesOne cs (kind_at ms (suc k)) (reference_at ms (suc k)) →
           passing entering ms (suc k) ≡ passing (of_kind jump_kind) ms (suc k) + passing (of_kind touch_kind) ms (suc k)
       go (inl (e, x)) = rw e refl
       go (inr (inl e)) = rw e refl

@@ -8,20 +8,22 @@
 --   retrace_accepted   it accepts every path that the retrace call finishes, with P + M u32 of work or more;
 --   accepted_counts    what it accepts has S cuts, n − 1 jumps and touches together, and S + B + n path points; with no contour, none.
 --
--- Refusals 1 to 5 are in Checks; that refusal 12 decides the division, over any contours that rise, in Deciding; the counts in Counts, over Tallies; and the
--- path statement's division, by points, in ByPoints. Assumes nothing.
-use Rattle.std.specs.Prelude.{◌≡◌, List, ℕ, ◌*◌, ◌/◌, length, take}
+-- Refusals 1 to 5 are in division_laws/specs/Checks.antt; the numbers of marks in Counts, over Tallies; that path points which keep the check's rules divide, in
+-- RulesKept; that refusal 12 decides the division, over any contours that rise, in NotDrawn; and the path statement's division, by points, in ByPoints, over
+-- EnteredFirst. Assumes nothing.
+use Rattle.std.specs.Prelude.{◌≡◌, List, ℕ, ◌*◌, ◌/◌, ◌≤◌, Float, length, take}
+use Rattle.std.proofs.Math.Decide.{dec_le}
 use Rattle.std.proofs.Common.{sym, ◌∙◌, arith}
-use Rattle.rules.specs.HandedOver.{contours_of, contours, gives, refuses}
+use Rattle.rules.specs.HandedOver.{Contour, contours_of, contours, gives, refuses}
 use Rattle.rules.specs.Calls.{retrace_call}
-use Rattle.statement.specs.PathCheck.{check_rows, check_call, DividedByPoints, CheckDecides, CheckPlaces, RetraceAccepted, AcceptedCounts}
-use Rattle.path.specs.Lists.{empty}
-use Rattle.path.specs.Rows.{given_other, rows_append, lacks_other}
-use Rattle.path.specs.Contours.{Rising, rising_from}
+use Rattle.statement.specs.PathCheck.{DividesByPoints, check_rows, check_call, DividedByPoints, CheckDecides, CheckPlaces, RetraceAccepted, AcceptedCounts}
+use Rattle.plate_laws.specs.Lists.{empty}
+use Rattle.plate_laws.specs.Rows.{given_other, rows_append, lacks_other}
+use Rattle.plate_laws.specs.Contours.{Rising, rising_from}
 use Rattle.path.specs.Theorem.{retrace_gives}
-use Rattle.division.specs.Checks.{Matched, check_other, check_lacks, check_passes}
-use Rattle.division.specs.Deciding.{drawn_divides, divides_drawn, drawn_fault, fault_drawn}
-use Rattle.division.specs.Counts.{cuts_are, jumps_are, points_are, none_are}
+use Rattle.division_laws.specs.Checks.{Matched, check_other, check_lacks, check_passes}
+use Rattle.division.specs.Tallies.{not_among}
+use Rattle.division.specs.NotDrawn.{drawn_divides, divides_drawn, drawn_fault, fault_drawn}
 use Rattle.division.specs.ByPoints.{divides_by_points, retrace_by_points}
 
 rising : (ns : List ℕ) → Rising (contours_of ns)
@@ -67,10 +69,18 @@ retrace_accepted p path ms w d c e work l =
     let written = take (2 * c.points) o.path in
     let marked = take (2 * c.points) o.marks in
     let divides = retrace_by_points p path ms w d c e in
-    let half : length written / 2 ≡ c.points = omega (arith, divides.whole.0) in
+    let half : length written / 2 ≡ c.points = omega (arith, divides.whole) in
     let matched : Matched p.points p.lengths written marked work =
-    record { accepted = (retrace_gives p path ms w d c e).0; whole = rw half divides.whole; work = l } in
+    record { accepted = (retrace_gives p path ms w d c e).0; whole = rw half (divides.whole, divides.division.whole); work = l } in
     (check_decides p.points p.lengths written marked work).1 (check_passes _ _ _ _ _ matched (gives tt)) (rw half divides)
+
+-- with no contour there is no path point
+no_points : {cs : List Contour} {xs : List Float} {n : ℕ} {path : List Float} {ms : List ℕ} → DividesByPoints cs xs n path ms → length cs ≡ 0 → n ≡ 0
+no_points {cs} {n = n} d e = go (dec_le 1 n)
+  where
+    go : Dec (1 ≤ n) → n ≡ 0
+    go (yes l) = let (c, m, o) = (d.division.start l).1 in absurd (not_among cs c e m)
+    go (no x) = omega (arith, x)
 
 pub accepted_counts : AcceptedCounts
 unfolding AcceptedCounts CheckDecides
@@ -78,8 +88,8 @@ accepted_counts xs ns path ms w e =
     let cs = contours_of ns in
     let n = length path / 2 in
     let d = ((check_decides xs ns path ms w).0 e).1 in (
-      cuts_are cs (rising ns) xs n path ms d,
-      jumps_are cs (rising ns) xs n path ms d,
-      points_are cs (rising ns) xs n path ms d,
-      λ z. empty path (omega (arith, d.whole.0, none_are cs (rising ns) xs n path ms d z)),
+      d.division.cuts,
+      d.division.jumps,
+      d.division.all,
+      λ z. empty path (omega (arith, d.whole, no_points d z)),
     )

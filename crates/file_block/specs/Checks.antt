@@ -18,7 +18,7 @@ abbrev rest : List ℕ → ℕ → List ℕ
 rest bs i = words (126 - i) (drop (4 * i) bs)
 
 -- the sums after i words: what they come to with the words that are left, and how large they are
-pub record Summed (bs : List ℕ) (first second i : ℕ) : Type 0 where
+pub record SummedTo (bs : List ℕ) (first second i : ℕ) : Type 0 where
   pub within : i ≤ 126
   pub first_is : first + sum (rest bs i) ≡ sum (words 126 bs)
   pub second_is : second + sum (sums first (rest bs i)) ≡ sum (sums 0 (words 126 bs))
@@ -32,11 +32,8 @@ rest_step bs i h =
     let g : 4 * i + 4 ≡ 4 * (i + 1) = omega arith in
     rw (e, drop-drop 4 (4 * i) bs, g)
 
-pub summed_none : (bs : List ℕ) → Summed bs 0 0 0
-summed_none bs = record { within = omega arith; first_is = omega arith; second_is = omega arith; first_small = omega arith; second_small = omega arith }
-
-pub summed_more : (bs : List ℕ) {first second i w : ℕ} → Summed bs first second i → i < 126 → w ≡ field (4 * i) 4 bs → w < 4294967296 →
-    Summed bs (first + w) (second + (first + w)) (i + 1)
+pub summed_more : (bs : List ℕ) {first second i w : ℕ} → SummedTo bs first second i → i < 126 → w ≡ field (4 * i) 4 bs → w < 4294967296 →
+    SummedTo bs (first + w) (second + (first + w)) (i + 1)
 unfolding sum sums
 summed_more bs {first} {second} {i} s h e l =
     let step = rest_step bs i h in
@@ -53,12 +50,12 @@ summed_more bs {first} {second} {i} s h e l =
       second_small = omega (arith, e, s.first_small, s.second_small);
     })
 
-pub summed_all : (bs : List ℕ) {first second i : ℕ} → Summed bs first second i → 126 ≤ i → Checked bs (first % 4294967296) (second % 4294967296)
+pub summed_all : (bs : List ℕ) {first second i : ℕ} → SummedTo bs first second i → 126 ≤ i → Checked bs (first % 4294967296) (second % 4294967296)
 unfolding first_check second_check sum sums words
 summed_all bs {first} {second} {i} s h =
     let w = s.within in
     let e : i ≡ 126 = omega arith in
-    let t : Summed bs first second 126 = rw e at s in
+    let t : SummedTo bs first second 126 = rw e at s in
     record {
       first_is = rw (← t.first_is) (ap (λ (n : ℕ). n % 4294967296) (omega arith));
       second_is = rw (← t.second_is) (ap (λ (n : ℕ). n % 4294967296) (omega arith));

@@ -1,4 +1,3 @@
 pub mod Checks
-pub mod Writing
-pub mod Testing
+pub mod BlockTests
 pub mod Parts

@@ -11,14 +11,20 @@ use borrow.Author.Tests.{eq-eqb, ne_eqb}
 use Rattle.rules.specs.Tools.{pick}
 use Rattle.rules.specs.HandedOver.{in_range, plate_limit, first_off}
 use Rattle.little_endian.specs.Bytes.{to_bytes, from_bytes, part, field, words, patterns, floats}
-use Rattle.little_endian.specs.Numbers.{bytes_length, patterns_length, words_front, floats_front}
+use Rattle.little_endian.specs.Numbers.{bytes_length, sets_append, patterns_length, words_front, floats_front}
 use Rattle.file_format.specs.PlateFile.{first_check, second_check, count_in, sound, block_body, block}
 use Rattle.file_laws.specs.Lengths.{body_length}
 use Rattle.file_block.specs.Checks.{Checked}
-use Rattle.file_block.specs.Testing.{unused_fail, all_but_last}
-use Rattle.file_block.specs.Writing.{sets_whole, more_written}
+use Rattle.file_block.specs.BlockTests.{unused_fail, all_but_last}
 
 -- ---- writing
+
+sets_whole : (b vs : List ℕ) → length vs ≤ length b → sets b 0 vs ≡ vs ++ drop (length vs) b
+sets_whole b vs h = let z : 0 + length vs ≡ length vs = omega arith in rw z at (sets-eq vs b 0 (omega arith))
+
+-- one more part behind those that were written
+more_written : (b p q : List ℕ) {r s : List ℕ} (k : ℕ) → r ≡ sets b 0 p → length p ≡ k → s ≡ sets r k q → s ≡ sets b 0 (p ++ q)
+more_written b p q k e l f = let z : k ≡ 0 + length p = omega arith in f ∙ rw (e, z) (sym (sets_append b 0 p q))
 
 zeros : (n : ℕ) → to_bytes n 0 ≡ replicate n 0
 unfolding to_bytes

@@ -5,7 +5,7 @@ ghost use Rattle.std.specs.Prelude.{◌≡◌, ◌*◌, ◌/◌, ◌≤◌, eqb,
 ghost use Rattle.std.specs.Float.{binary64};
 ghost use Rattle.std.specs.Float.Ieee.{of_bits};
 ghost use Rattle.rules.specs.HandedOver.{in_range, plate_limit, first_off};
-ghost use Rattle.path.specs.Lists.{All};
+ghost use Rattle.plate_laws.specs.Lists.{All};
 ghost use Rattle.little_endian.specs.Bytes.{from_bytes, floats};
 ghost use Rattle.little_endian.specs.Numbers.{NoNan};
 ghost use Rattle.file_format.specs.PlateFile.{block, count_in, sound};
@@ -28,8 +28,8 @@ struct Checks {
     second: u64,
 }
 
-// 126 words: their sums stay far below 2^64, so that one remainder at the end is enough. (No `from_le_bytes` here and in `all_on_plate`: its contract has another
-// definition of the number, a sum over the bytes. `read`'s is that of the whole file format, so that one definition serves all.)
+// 126 words: their sums stay far below 2^64, so that one remainder at the end is enough. (No `from_le_bytes` here and in `all_on_plate`: its contract has
+// another definition of the number, a sum over the bytes. `read`'s is that of the whole file format, so that one definition serves all.)
 fn sum_words(bytes: &[u8]) -> Checks
     requires { 504 ≤ length bytes.now }
     ensures { Checked bytes.now result.first result.second }

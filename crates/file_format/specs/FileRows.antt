@@ -1,16 +1,15 @@
 -- Plate files (document 02, ticket 2), as rows of tables that one theorem covers, and the writer's limit, which no row can reach.
 -- Bytes, answers and places are those of a separate model of document 02's text, written in Python: none comes from the definitions.
-use Rattle.std.specs.Prelude.{◌≡◌, refl, true, false, List, [], ◌∷◌, ◌++◌, map, ℕ, ◌+◌, ◌/◌, ◌≤◌, pos, negsuc, length, take, replicate, Float}
+use Rattle.std.specs.Prelude.{◌≡◌, refl, true, false, List, [], ◌∷◌, ◌++◌, map, ℕ, ◌+◌, ◌/◌, ◌<◌, pos, negsuc, length, take, replicate, Float}
 use Rattle.std.proofs.Common.{lt-ltb}
 use Rattle.std.proofs.lemmas.List.Edits.{sets}
 use Rattle.std.specs.Float.{nan, fin}
 use Rattle.std.specs.Float.Ieee.{neg, le, of_bits, to_bits}
+use Rattle.rules.specs.Limits.{most_path_points}
 use Rattle.rules.specs.Tools.{pick, sum}
 use Rattle.rules.specs.HandedOver.{Answer, gives, refuses, in_range, plate_limit, first_off, refused_by, out_of_range, off_the_plate, no_room, over, written}
 use Rattle.little_endian.specs.Bytes.{to_bytes, from_bytes, part, field, words, patterns, floats}
-use Rattle.file_format.specs.PlateFile.{sums, first_check, second_check, block_body, block, blocks, write_file, count_in, coordinates_in, sound, block_damaged}
-use Rattle.file_format.specs.PlateFile.{too_many_path_points, goes_on, followed, read_from, read_file, odd_path, write_rows, WriteOutcome, write_call}
-use Rattle.file_format.specs.PlateFile.{read_into, coordinates_of, ReadOutcome, read_call}
+use Rattle.file_format.specs.PlateFile.{sums, first_check, second_check, block_body, block, blocks, write_file, count_in, coordinates_in, sound, block_damaged, too_many_path_points, goes_on, followed, read_from, read_file, odd_path, write_rows, WriteOutcome, write_call, read_into, coordinates_of, ReadOutcome, read_call}
 
 -- ---- paths
 
@@ -76,11 +75,11 @@ passing = points_block but ((0, 33 ∷ 132 ∷ []) ∷ (504, 164 ∷ 8 ∷ 31 �
 -- ---- rows
 
 -- a path or a file, how many bytes or numbers the output slice has, and the outcome
-abbrev pub Writing : Type 0
-Writing = List Float × ℕ × WriteOutcome
+abbrev pub WriteRow : Type 0
+WriteRow = List Float × ℕ × WriteOutcome
 
-abbrev pub Reading : Type 0
-Reading = List ℕ × ℕ × ReadOutcome
+abbrev pub ReadRow : Type 0
+ReadRow = List ℕ × ℕ × ReadOutcome
 
 -- what the output slices hold before
 unfoldable pub unwritten : ℕ → List ℕ
@@ -90,29 +89,29 @@ unfoldable pub unread : ℕ → List Float
 unread n = replicate n (fin false 7 (pos 0))
 
 -- a path's file, with so many bytes of room beyond it; and a refusal
-writes : List Float → List ℕ → ℕ → Writing
+writes : List Float → List ℕ → ℕ → WriteRow
 writes xs bs beyond = (xs, length bs + beyond, record { answer = gives (length bs); file = bs ++ unwritten beyond })
 
-not_written : List Float → ℕ → ℕ → ℕ → Writing
+not_written : List Float → ℕ → ℕ → ℕ → WriteRow
 not_written xs room number place = (xs, room, record { answer = refuses number place; file = unwritten room })
 
 -- a file's path, with so many numbers of room beyond it; and a refusal
-reads : List ℕ → List Float → ℕ → Reading
+reads : List ℕ → List Float → ℕ → ReadRow
 reads bs xs beyond = (bs, length xs + beyond, record { answer = gives (length xs / 2); path = xs ++ unread beyond })
 
-not_read : List ℕ → ℕ → ℕ → ℕ → Reading
+not_read : List ℕ → ℕ → ℕ → ℕ → ReadRow
 not_read bs room number place = (bs, room, record { answer = refuses number place; path = unread room })
 
 -- 8 and 9 come before 6: there is no room for a point
-damaged : List ℕ → ℕ → Reading
+damaged : List ℕ → ℕ → ReadRow
 damaged bs place = not_read bs 1 8 place
 
-wrong_end : List ℕ → ℕ → Reading
+wrong_end : List ℕ → ℕ → ReadRow
 wrong_end bs place = not_read bs 1 9 place
 
 -- ---- the tables
 
-pub writing : List Writing
+pub writing : List WriteRow
 writing =
     -- nothing beyond the file is altered
     writes [] zeros 2
@@ -130,7 +129,7 @@ writing =
     ∷ not_written (long 60) 1023 6 0
     ∷ []
 
-pub reading : List Reading
+pub reading : List ReadRow
 reading =
     -- nothing beyond the path is altered
     reads zeros [] 1
@@ -211,9 +210,9 @@ files = (refl, refl, refl)
 -- ---- the writer's limit
 
 -- above 1,048,576 points comes 2, whatever else is wrong
-pub too_long : (xs : List Float) (file : List ℕ) → 1048577 ≤ length xs / 2 → (write_call xs file).answer ≡ refuses 2 0
+pub too_long : (xs : List Float) (file : List ℕ) → most_path_points < length xs / 2 → (write_call xs file).answer ≡ refuses 2 0
 unfolding write_call write_rows refused_by pick too_many_path_points
-too_long xs file h = rw (lt-ltb 1048576 (length xs / 2) h) refl
+too_long xs file h = rw (lt-ltb most_path_points (length xs / 2) h) refl
 
 -- the same of one point more, by the numbers
 pub above_limit : (xs : List Float) (file : List ℕ) → length xs ≡ 2097154 → (write_call xs file).answer ≡ refuses 2 0

@@ -4,7 +4,8 @@
 -- A block has 512 bytes: 0 to 3 its number, 4 and 5 its count of points, 6 and 7 zero, 8 to 503 its 31 places, 504 to 507 the first check, 508 to 511 the second.
 use Rattle.std.specs.Prelude.{◌≡◌, Bool, not, ◌&&◌, List, [], ◌∷◌, ◌++◌, ℕ, zero, suc, ◌+◌, ◌-◌, ◌*◌, ◌/◌, ◌%◌, ◌^◌, ◌≤◌, leb, ltb, eqb, length, take, drop, Float}
 use Rattle.rules.specs.Tools.{pick, sum}
-use Rattle.rules.specs.HandedOver.{AllF64, most_path_points, Answer, gives, refuses, plate_limit, first_off, RefusalRow, row, refused_by, off_the_plate, no_room, over, written}
+use Rattle.rules.specs.HandedOver.{AllF64, Answer, gives, refuses, plate_limit, first_off, RefusalRow, row, refused_by, off_the_plate, no_room, over, written}
+use Rattle.rules.specs.Limits.{most_path_points}
 use Rattle.little_endian.specs.Bytes.{AllBytes, to_bytes, field, words, patterns, floats}
 
 -- ---- the two checks

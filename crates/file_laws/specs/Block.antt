@@ -10,9 +10,9 @@ use Rattle.std.specs.Float.Ieee.{neg, lt, eq, le, is_nan}
 use borrow.Author.Tests.{leb-true, eqb-true, le-leb, eq-eqb}
 use Rattle.rules.specs.Tools.{sum}
 use Rattle.rules.specs.HandedOver.{IsF64, in_range, plate_limit, first_off}
-use Rattle.path.specs.Lists.{All, all_give, all_take, all_drop}
-use Rattle.path.specs.FiniteDistances.{OnPlate}
-use Rattle.path.specs.Accepted.{first_off_lem, first_on}
+use Rattle.plate_laws.specs.Lists.{All, all_give, all_take, all_drop}
+use Rattle.plate_laws.specs.FiniteDistances.{OnPlate}
+use Rattle.plate_laws.specs.Accepted.{first_off_lem, first_on}
 use Rattle.little_endian.specs.Bytes.{IsByte, to_bytes, from_bytes, part, field, words, patterns, floats}
 use Rattle.little_endian.specs.Numbers.{bytes_length, number_bytes, bytes_of, words_front, patterns_length, floats_length, floats_patterns, floats_front, NoNan, patterns_floats}
 use Rattle.file_format.specs.PlateFile.{sums, first_check, second_check, block_body, block, count_in, coordinates_in, sound}
@@ -146,7 +146,7 @@ block_read i xs h small =
 
 module _ (i : ℕ) (b : List ℕ) (is : sound i b ≡ true) where
   -- the tests that it passed
-  record Sound : Type 0 where
+  record SoundBlock : Type 0 where
     numbered : field 0 4 b ≡ i
     few : count_in b ≤ 31
     zeros : field 6 2 b ≡ 0
@@ -155,7 +155,7 @@ module _ (i : ℕ) (b : List ℕ) (is : sound i b ≡ true) where
     second : field 508 4 b ≡ second_check (words 126 b)
     on : first_off plate_limit 0 (coordinates_in b) ≡ 2 * count_in b
 
-  passed : Sound
+  passed : SoundBlock
   unfolding sound
   passed =
       let t6 = and_true _ _ is in
@@ -185,7 +185,7 @@ module _ (i : ℕ) (b : List ℕ) (is : sound i b ≡ true) where
   sound_on = first_off_lem plate_limit 0 (coordinates_in b) (omega (arith, passed.on, sound_length))
 
 module _ (i : ℕ) (b : List ℕ) (bytes : All IsByte b) (whole : length b ≡ 512) (is : sound i b ≡ true) where
-  tests : Sound i b is
+  tests : SoundBlock i b is
   tests = passed i b is
 
   few_in : count_in b ≤ 31

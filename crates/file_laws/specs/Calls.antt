@@ -5,11 +5,12 @@ use Rattle.std.proofs.Math.Bool.{not}
 use Rattle.std.proofs.Math.ListN.{length}
 use borrow.Author.Tests.{lt-ltb, le-ltb, eq-eqb, ne_eqb}
 use Rattle.rules.specs.Tools.{pick}
-use Rattle.rules.specs.HandedOver.{most_path_points, gives, refuses, plate_limit, first_off, refused_by, out_of_range, off_the_plate, no_room, over, written}
-use Rattle.path.specs.Rows.{Passed, rows_pass}
+use Rattle.rules.specs.HandedOver.{gives, refuses, plate_limit, first_off, refused_by, out_of_range, off_the_plate, no_room, over, written}
+use Rattle.rules.specs.Limits.{most_path_points}
+use Rattle.plate_laws.specs.Rows.{Passed, rows_pass}
 use Rattle.file_format.specs.PlateFile.{write_file, read_file, too_many_path_points, odd_path, write_rows, write_call, read_into, coordinates_of, read_call}
-use Rattle.file_laws.specs.Counting.{counted, counted_gives, counted_refuses}
-use Rattle.file_laws.specs.Copying.{points_read}
+use Rattle.file_laws.specs.PointCounts.{counted, counted_gives, counted_refuses}
+use Rattle.file_laws.specs.BlockCopies.{points_read}
 
 -- ---- the writer
 

@@ -7,10 +7,11 @@ use Rattle.std.proofs.Math.Logic.{inl, inr}
 use Rattle.std.proofs.Math.Seq.{take_all}
 use borrow.Author.Tests.{ltb-true, ltb-false, not-false, lt-ltb, le-ltb}
 use Rattle.rules.specs.Tools.{pick}
-use Rattle.rules.specs.HandedOver.{IsF64, most_path_points, Answer, gives, refuses, refused_by}
-use Rattle.path.specs.Lists.{All, all_append, all_take, all_drop}
-use Rattle.path.specs.Rows.{rows_give, rows_pass}
-use Rattle.path.specs.FiniteDistances.{OnPlate}
+use Rattle.rules.specs.HandedOver.{IsF64, Answer, gives, refuses, refused_by}
+use Rattle.rules.specs.Limits.{most_path_points}
+use Rattle.plate_laws.specs.Lists.{All, all_append, all_take, all_drop}
+use Rattle.plate_laws.specs.Rows.{rows_give, rows_pass}
+use Rattle.plate_laws.specs.FiniteDistances.{OnPlate}
 use Rattle.little_endian.specs.Bytes.{IsByte}
 use Rattle.file_format.specs.PlateFile.{block, blocks, write_file, count_in, coordinates_in, sound, block_damaged, too_many_path_points, goes_on, followed, read_from, read_file}
 use Rattle.file_laws.specs.Lengths.{block_length, file_length}
@@ -86,13 +87,13 @@ read_write xs p =
 -- ---- what is read as a path
 
 -- A block of a file that is read as xs, bs being what is left of the file with it and m the blocks after it: it closes the file, or it is full and more follows.
-pub record Closes (m : ℕ) (bs : List ℕ) (xs : List Float) : Type 0 where
+pub record ClosingBlock (m : ℕ) (bs : List ℕ) (xs : List Float) : Type 0 where
   pub count : count_in (take 512 bs) < 31
   pub last : m ≡ 0
   pub whole : take 512 bs ≡ bs
   pub path : xs ≡ coordinates_in (take 512 bs)
 
-pub record Follows (m i : ℕ) (bs : List ℕ) (xs : List Float) : Type 0 where
+pub record FullBlock (m i : ℕ) (bs : List ℕ) (xs : List Float) : Type 0 where
   pub count : count_in (take 512 bs) ≡ 31
   pub later : List Float
   pub reads : read_from m (suc i) (drop 512 bs) ≡ gives later
@@ -101,7 +102,7 @@ pub record Follows (m i : ℕ) (bs : List ℕ) (xs : List Float) : Type 0 where
 pub record ReadBlock (m i : ℕ) (bs : List ℕ) (xs : List Float) : Type 0 where
   pub is : sound i (take 512 bs) ≡ true
   pub few : 31 * i + count_in (take 512 bs) ≤ most_path_points
-  pub then : Closes m bs xs ⊎ Follows m i bs xs
+  pub then : ClosingBlock m bs xs ⊎ FullBlock m i bs xs
 
 followed_gives : (cs xs : List Float) (r : Answer (List Float)) → followed cs r ≡ gives xs → (ys : List Float) × (r ≡ gives ys) × (xs ≡ cs ++ ys)
 unfolding followed
@@ -115,7 +116,7 @@ module _ (m i : ℕ) (bs : List ℕ) (xs : List Float) (left : length bs / 512 �
   -- after the tests of the block
   after_tests : sound i here ≡ true → (t : Bool) → ltb (count_in here) 31 ≡ t →
       pick t (refused_by (goes_on i (length bs) ∷ []) (gives (coordinates_in here))) (followed (coordinates_in here) (read_from m (suc i) (drop 512 bs))) ≡ gives xs →
-      Closes m bs xs ⊎ Follows m i bs xs
+      ClosingBlock m bs xs ⊎ FullBlock m i bs xs
   unfolding pick goes_on
   after_tests s true t e =
       let ((shut, _), same) = rows_give (goes_on i (length bs) ∷ []) _ xs e in
@@ -141,7 +142,7 @@ pub record ReadAs (n i : ℕ) (xs : List Float) : Type 0 where
   pub few : 31 * i + length xs / 2 ≤ most_path_points
   pub on : All OnPlate xs
 
-closes_as : (m i : ℕ) (bs : List ℕ) (xs : List Float) → ReadBlock m i bs xs → Closes m bs xs → ReadAs (suc m) i xs
+closes_as : (m i : ℕ) (bs : List ℕ) (xs : List Float) → ReadBlock m i bs xs → ClosingBlock m bs xs → ReadAs (suc m) i xs
 closes_as m i bs xs r c =
     let b = take 512 bs in
     let l = sound_length i b r.is in
@@ -150,7 +151,7 @@ closes_as m i bs xs r c =
     let few = r.few in
     rw c.path (record { count = omega arith; even = omega arith; few = omega arith; on = sound_on i b r.is })
 
-follows_as : (m i : ℕ) (bs : List ℕ) (xs : List Float) → ReadBlock m i bs xs → (f : Follows m i bs xs) → ReadAs m (suc i) f.later → ReadAs (suc m) i xs
+follows_as : (m i : ℕ) (bs : List ℕ) (xs : List Float) → ReadBlock m i bs xs → (f : FullBlock m i bs xs) → ReadAs m (suc i) f.later → ReadAs (suc m) i xs
 follows_as m i bs xs r f a =
     let b = take 512 bs in
     let ys = f.later in
@@ -175,7 +176,7 @@ read_from_lem (suc m) i bs xs l e =
 
 -- ---- and is the file of that path
 
-closes_with : (m i : ℕ) (bs : List ℕ) (xs : List Float) → All IsByte bs → 512 ≤ length bs → ReadBlock m i bs xs → Closes m bs xs → bs ≡ blocks (suc m) i xs
+closes_with : (m i : ℕ) (bs : List ℕ) (xs : List Float) → All IsByte bs → 512 ≤ length bs → ReadBlock m i bs xs → ClosingBlock m bs xs → bs ≡ blocks (suc m) i xs
 unfolding blocks
 closes_with m i bs xs a h r c =
     let b = take 512 bs in
@@ -185,7 +186,7 @@ closes_with m i bs xs a h r c =
     rw (c.path, c.last, take_all 62 (coordinates_in b) k)
     (sym c.whole ∙ sound_block i b (all_take IsByte 512 bs a) (length-take-le 512 bs h) r.is ∙ sym (append-nil (block i (coordinates_in b))))
 
-follows_with : (m i : ℕ) (bs : List ℕ) (xs : List Float) → All IsByte bs → 512 ≤ length bs → ReadBlock m i bs xs → (f : Follows m i bs xs) →
+follows_with : (m i : ℕ) (bs : List ℕ) (xs : List Float) → All IsByte bs → 512 ≤ length bs → ReadBlock m i bs xs → (f : FullBlock m i bs xs) →
     drop 512 bs ≡ blocks m (suc i) f.later → bs ≡ blocks (suc m) i xs
 unfolding blocks
 follows_with m i bs xs a h r f e =

@@ -2,9 +2,9 @@ pub mod Chunks
 pub mod Lengths
 pub mod Block
 pub mod File
-pub mod Writing
-pub mod Counting
-pub mod Copying
+pub mod WrittenFile
+pub mod PointCounts
+pub mod BlockCopies
 pub mod Parts
 pub mod Calls
 pub mod Theorem

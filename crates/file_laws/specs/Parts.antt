@@ -3,14 +3,14 @@ use Rattle.std.specs.Prelude.{◌≡◌, refl, List, ◌++◌, ℕ, ◌+◌, ◌
 use Rattle.std.proofs.Common.{sym, ap, ◌∙◌, append-nil, arith, length-take, length-drop, length-take-le, take-add, take_all, drop_of_length-le}
 use Rattle.std.proofs.Math.Decide.{dec_le}
 use Rattle.rules.specs.HandedOver.{gives, over}
-use Rattle.path.specs.Lists.{All}
+use Rattle.plate_laws.specs.Lists.{All}
 use Rattle.little_endian.specs.Bytes.{floats}
 use Rattle.little_endian.specs.Numbers.{NoNan}
 use Rattle.file_format.specs.PlateFile.{block, blocks, write_file, read_file}
 use Rattle.file_laws.specs.Lengths.{block_length, blocks_length}
-use Rattle.file_laws.specs.Writing.{over_append, blocks_snoc, written_to}
-use Rattle.file_laws.specs.Counting.{counted}
-use Rattle.file_laws.specs.Copying.{read_path, copied_to, read_as, points_read, blocks_read, all_copied, copied_here, copied_numbers}
+use Rattle.file_laws.specs.WrittenFile.{over_append, blocks_snoc, written_to}
+use Rattle.file_laws.specs.PointCounts.{counted}
+use Rattle.file_laws.specs.BlockCopies.{read_path, copied_to, read_as, points_read, blocks_read, all_copied, copied_here, copied_numbers}
 
 -- ---- writing
 

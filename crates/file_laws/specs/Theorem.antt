@@ -3,10 +3,11 @@ use Rattle.std.specs.Prelude.{◌≡◌, refl, List, [], ◌∷◌, ℕ, ◌/◌
 use Rattle.std.proofs.Common.{sym, ap, ◌∙◌, arith, take_at, ltb-false, eqb-true, le-ltb}
 use Rattle.std.specs.Float.{nan}
 use Rattle.std.proofs.lemmas.Bool.{not-false}
-use Rattle.rules.specs.HandedOver.{IsF64, AllF64, most_path_points, gives, plate_limit, first_off, out_of_range, off_the_plate, no_room, over, written}
-use Rattle.path.specs.Lists.{All, all-places}
-use Rattle.path.specs.Rows.{Passed, rows_give, rows_pass}
-use Rattle.path.specs.Accepted.{first_off_lem, first_on}
+use Rattle.rules.specs.HandedOver.{IsF64, AllF64, gives, plate_limit, first_off, out_of_range, off_the_plate, no_room, over, written}
+use Rattle.rules.specs.Limits.{most_path_points}
+use Rattle.plate_laws.specs.Lists.{All, all-places}
+use Rattle.plate_laws.specs.Rows.{Passed, rows_give, rows_pass}
+use Rattle.plate_laws.specs.Accepted.{first_off_lem, first_on}
 use Rattle.little_endian.specs.Bytes.{IsByte, AllBytes}
 use Rattle.file_format.specs.PlateFile.{write_file, read_file, too_many_path_points, odd_path, write_rows, write_call, read_into, coordinates_of, read_call, ReadsBack, OneFile}
 use Rattle.file_laws.specs.Calls.{write_passed, write_accepted}

@@ -1,4 +1,4 @@
-// Where the square root starts: a table of first roots, and one of the reciprocals of 16 more than each (docs/DECISIONS.md, 165).
+// Where the square root starts: a table of first roots, and one of the reciprocals of 16 more than each (docs/DECISIONS.md, 37).
 #![tactic(auto)]
 
 ghost use Rattle.std.specs.Prelude.{◌≡◌, ℕ, ◌+◌, ◌-◌, ◌*◌, ◌/◌, ◌^◌, ◌≤◌, ◌<◌, slice_index};
@@ -165,7 +165,8 @@ pub struct FirstRoot {
 
 // The entries of k = n / 2^52, which is 256 to 1,023. The root of n × 2^48 is the one that the square root forms.
 pub fn first_root(n: u64) -> FirstRoot
-    requires { (2 ^ 60 ≤ n) × (n < 2 ^ 62) }
+    requires least { 2 ^ 60 ≤ n }
+    requires most { n < 2 ^ 62 }
     ensures entry { result.root ≡ slice_index FIRST_ROOTS (n / 2 ^ 52 - 256) }
     ensures root { IsFirstRoot (n / 2 ^ 52) result.root }
     ensures scaled { WithinA256thOfRoot (n * 2 ^ 48) (result.root * 2 ^ 40) }

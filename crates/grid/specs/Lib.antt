@@ -1,4 +1,4 @@
-pub mod Sane
+pub mod SaneGrid
 pub mod Props
 pub mod Numbers
 pub mod PlateGrid

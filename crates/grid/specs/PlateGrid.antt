@@ -9,12 +9,12 @@ use Rattle.rules.specs.Box.{box}
 use Rattle.rules.specs.GridAndNearest.{grid_of}
 use Rattle.rules.specs.HandedOver.{IsF64}
 use Rattle.rules.specs.declared.BoundingBox.{BoundingBox}
-use Rattle.path.specs.Lists.{All}
-use Rattle.path.specs.Accepted.{Accepted}
-use Rattle.bounds.specs.Units.{positive_at}
-use Rattle.bounds.specs.Boxes.{Sides, Sound, box_sides, accepted_sound}
-use Rattle.bounds.specs.Gridded.{gridded}
-use Rattle.grid.specs.Sane.{Sane}
+use Rattle.plate_laws.specs.Lists.{All}
+use Rattle.plate_laws.specs.Accepted.{Accepted}
+use Rattle.rounding_errors.specs.Units.{positive_at}
+use Rattle.rounding_errors.specs.Boxes.{Sides, SoundBox, box_sides, accepted_sound}
+use Rattle.rounding_errors.specs.BoxGrid.{gridded}
+use Rattle.grid.specs.SaneGrid.{SaneGrid}
 
 inverse_some : (L I S : ℕ) → 0 < L → L * L * 2 ^ 53 ≤ I * S * (2 ^ 53 + 1) → 0 < I
 inverse_some L I S l h = first_pos I S (go (L * L) (I * S) (mul-pos l l) h)
@@ -22,7 +22,7 @@ inverse_some L I S l h = first_pos I S (go (L * L) (I * S) (mul-pos l l) h)
     go : (u v : ℕ) → 0 < u → u * 2 ^ 53 ≤ v * (2 ^ 53 + 1) → 0 < v
     go u v h g = omega arith
 
-pub sane_of : (b : BoundingBox) → Sides IsF64 b → Sound b → Sane (grid_of b)
+pub sane_of : (b : BoundingBox) → Sides IsF64 b → SoundBox b → SaneGrid (grid_of b)
 sane_of b f s =
     let g = gridded b f s in
     record {
@@ -35,5 +35,5 @@ sane_of b f s =
     }
 
 -- a plate that refusals 1 to 4 let pass
-pub plate_grid : (xs : List Float) (ns : List ℕ) → All IsF64 xs → Accepted xs ns → 0 < sum ns → Sane (grid_of (box xs))
+pub plate_grid : (xs : List Float) (ns : List ℕ) → All IsF64 xs → Accepted xs ns → 0 < sum ns → SaneGrid (grid_of (box xs))
 plate_grid xs ns f a h = sane_of (box xs) (box_sides IsF64 xs (inf-fits binary64) f) (accepted_sound xs ns a h)

@@ -3,9 +3,9 @@ use Rattle.std.specs.Coded.{le_prop}
 use Rattle.std.specs.Float.Ieee.Positive.{positive}
 use lib.Dec.{T_prop}
 use Rattle.rules.specs.declared.SpatialGrid.{SpatialGrid}
-use Rattle.grid.specs.Sane.{Sane}
+use Rattle.grid.specs.SaneGrid.{SaneGrid}
 
-pub sane_prop : (g : SpatialGrid) → IsProp (Sane g)
+pub sane_prop : (g : SpatialGrid) → IsProp (SaneGrid g)
 sane_prop g a b =
     λ i. record {
       cols_least = le_prop a.cols_least b.cols_least i;

@@ -2,11 +2,12 @@
 #![tactic(auto)]
 
 ghost use Rattle.std.specs.Prelude.{◌≡◌, ◌*◌, ◌≤◌, ◌<◌};
+ghost use Rattle.rules.specs.Limits.{most_cells, most_cells_along};
 ghost use Rattle.rules.specs.Box.{widen, box};
 ghost use Rattle.rules.specs.GridAndNearest.{cell_size, cells_along, grid_of, index_along, cell_of};
 ghost use Rattle.rules.specs.SamplesAndCache.{cell_number};
-ghost use Rattle.bounds.specs.Boxes.{Sound};
-ghost use Rattle.grid.specs.Sane.{Sane};
+ghost use Rattle.rounding_errors.specs.Boxes.{SoundBox};
+ghost use Rattle.grid.specs.SaneGrid.{SaneGrid};
 ghost use Rattle.grid.specs.Props.{sane_prop};
 
 use compare::{greater, lesser};
@@ -15,7 +16,7 @@ use rules::{BoundingBox, Point, SpatialGrid};
 
 // A cell of the grid.
 #[derive(Clone, Copy)]
-pub struct Cell {
+pub struct GridCell {
     pub col: u32,
     pub row: u32,
 }
@@ -24,7 +25,7 @@ pub struct Cell {
 #[derive(Clone, Copy)]
 pub struct Grid {
     pub spatial: SpatialGrid,
-    ghost sane: { Sane spatial } by { sane_prop spatial },
+    ghost sane: { SaneGrid spatial } by { sane_prop spatial },
 }
 
 // The box with one point more.
@@ -67,7 +68,7 @@ fn cell_size(b: BoundingBox) -> f64
 // The number of columns, or rows: the greatest coordinate and a margin of one cell lie within them.
 #[tactic(auto, unfolding(rules::specs::GridAndNearest::cells_along))]
 fn cells_along(size: f64, origin: f64, greatest: f64) -> u32
-    requires { cells_along size origin greatest ≤ 54 }
+    requires { cells_along size origin greatest ≤ most_cells_along }
     ensures { result ≡ cells_along size origin greatest }
 {
     ceiling((greatest - origin + size) / size) + 1
@@ -77,7 +78,8 @@ fn cells_along(size: f64, origin: f64, greatest: f64) -> u32
 #[tactic(auto, unfolding(rules::specs::GridAndNearest::index_along))]
 fn index_along(origin: f64, inverse: f64, cells: u32, x: f64) -> u32
     requires { 0 < cells }
-    ensures { (result ≡ index_along origin inverse cells x) × (result < cells) }
+    ensures index { result ≡ index_along origin inverse cells x }
+    ensures below { result < cells }
 {
     let index = truncated((x - origin) * inverse);
     index.min(cells - 1)
@@ -86,7 +88,7 @@ fn index_along(origin: f64, inverse: f64, cells: u32, x: f64) -> u32
 impl Grid {
     // The grid over a box, with a margin of one cell around it.
     pub fn new(b: BoundingBox) -> Grid
-        requires { Sound b }
+        requires { SoundBox b }
         ensures { result.spatial ≡ grid_of b }
     {
         let size = cell_size(b);
@@ -104,12 +106,14 @@ impl Grid {
     }
 
     #[tactic(auto, unfolding(rules::specs::GridAndNearest::cell_of))]
-    pub fn cell_of(self, p: Point) -> Cell
-        ensures { (result.col ≡ (cell_of self.spatial p).col) × (result.row ≡ (cell_of self.spatial p).row)
-            × (result.col < self.spatial.cols) × (result.row < self.spatial.rows) }
+    pub fn cell_of(self, p: Point) -> GridCell
+        ensures col { result.col ≡ (cell_of self.spatial p).col }
+        ensures row { result.row ≡ (cell_of self.spatial p).row }
+        ensures col_below { result.col < self.spatial.cols }
+        ensures row_below { result.row < self.spatial.rows }
     {
         let g = self.spatial;
-        Cell {
+        GridCell {
             col: index_along(g.origin_x, g.inv_cell_size, g.cols, p.x),
             row: index_along(g.origin_y, g.inv_cell_size, g.rows, p.y),
         }
@@ -117,10 +121,12 @@ impl Grid {
 
     // A cell's number, row by row.
     #[tactic(auto, using(crate::specs::Numbers::number_below), unfolding(rules::specs::SamplesAndCache::cell_number))]
-    pub fn cell_number(self, c: Cell) -> u32
-        requires { (c.col < self.spatial.cols) × (c.row < self.spatial.rows) }
-        ensures { (result ≡ cell_number self.spatial (record { col = c.col; row = c.row })) × (result < self.spatial.cols * self.spatial.rows)
-            × (result < 2916) }
+    pub fn cell_number(self, c: GridCell) -> u32
+        requires col { c.col < self.spatial.cols }
+        requires row { c.row < self.spatial.rows }
+        ensures number { result ≡ cell_number self.spatial (record { col = c.col; row = c.row }) }
+        ensures below { result < self.spatial.cols * self.spatial.rows }
+        ensures few { result < most_cells }
     {
         c.row * self.spatial.cols + c.col
     }

@@ -1,4 +1,4 @@
 pub mod History
 pub mod Points
-pub mod Appending
-pub mod Cut
+pub mod OneMorePoint
+pub mod CutPath

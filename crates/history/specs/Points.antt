@@ -3,8 +3,8 @@ use Rattle.std.specs.Prelude.{◌≡◌, refl, List, [], ◌∷◌, ◌++◌, ma
 use Rattle.std.proofs.Common.{ap, ◌∙◌, arith}
 use Rattle.rules.specs.Tools.{up_from}
 use Rattle.rules.specs.HandedOver.{Plate, at}
-use Rattle.rules.specs.RetraceAndMarks.{Step, coordinates, path_points}
-use Rattle.rules.specs.Calls.{vertices}
+use Rattle.rules.specs.Retrace.{path_points}
+use Rattle.rules.specs.Marks.{Step, coordinates, vertices}
 use Rattle.rules.specs.declared.Point.{Point}
 use Rattle.history.specs.History.{points}
 

@@ -4,28 +4,31 @@
 #![tactic(auto)]
 
 ghost use Rattle.std.specs.Prelude.{◌≡◌, ℕ, ◌+◌, ◌≤◌, ◌<◌, length};
-ghost use Rattle.layout.specs.Parts.{KeptFrom};
-ghost use Rattle.history.specs.History.{Chained, inserted};
+ghost use Rattle.rules.specs.Limits.{most_cells, most_path_points};
+ghost use Rattle.work_layout.specs.Parts.{KeptFrom};
+ghost use Rattle.history.specs.History.{ChainedPlaces, inserted};
 
 use grid::Grid;
-use rules::{PathPlace, Point};
+use rules::{MOST_CELLS, PathPlace, Point};
 
 // Empties every chain.
 pub fn clear(work: &mut [u32])
-    requires { 2916 ≤ length work.old }
-    ensures { (length work.new ≡ length work.old)
-        × ((cell : ℕ → ℕ) → Chained work.new cell 0) × (KeptFrom 2916 work.old work.new) }
+    requires { most_cells ≤ length work.old }
+    ensures length { length work.new ≡ length work.old }
+    ensures empty { (cell : ℕ → ℕ) → ChainedPlaces work.new cell 0 }
+    ensures kept { KeptFrom most_cells work.old work.new }
 {
-    layout::clear(&mut *work, 0, 2916);
+    work_layout::clear(&mut *work, 0, MOST_CELLS);
 }
 
 // Puts a path place, at which p is, in front of its cell's chain.
 pub fn insert(g: Grid, work: &mut [u32], place: PathPlace, p: Point)
-    requires { (place.0 < 1048576) × (2916 + place.0 < length work.old) }
+    requires place { place.0 < most_path_points }
+    requires room { most_cells + place.0 < length work.old }
     ensures { work.new ≡ inserted g.spatial work.old place.0 p }
 {
     let cell = g.cell_number(g.cell_of(p)) as usize;
     let i = place.0 as usize;
-    work[2916 + i] = work[cell];
+    work[MOST_CELLS + i] = work[cell];
     work[cell] = place.0 + 1;
 }

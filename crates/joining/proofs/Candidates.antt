@@ -8,17 +8,18 @@ use lib.Ieee.{Float}
 use lib.ListN.{length}
 use Rattle.rules.specs.HandedOver.{Plate, Contour}
 use Rattle.rules.specs.SamplesAndCache.{Waiting}
-use Rattle.rules.specs.RetraceAndMarks.{Step, closer, waiting_layer, choose}
+use Rattle.rules.specs.Retrace.{closer, waiting_layer, choose}
+use Rattle.rules.specs.Marks.{Step}
 use Rattle.rules.specs.declared.SpatialGrid.{SpatialGrid}
-use Rattle.path.specs.Waiting.{Sane}
-use Rattle.path.specs.Layers.{foremost_has}
-use Rattle.layout.specs.declared.Layout.{Layout}
-use Rattle.samples.specs.Owning.{sampled_length}
+use Rattle.plate_laws.specs.Waiting.{Sane}
+use Rattle.plate_laws.specs.Layers.{foremost_has}
+use Rattle.work_layout.specs.declared.Layout.{Layout}
+use Rattle.samples.specs.OwnerLaws.{sampled_length}
 use Rattle.samples.specs.Vertices.{vertex_from}
-use Rattle.prepare.specs.Holds.{Holds}
-use Rattle.start.specs.declared.Contour as code
-use Rattle.start.specs.Oriented.{contour_of}
-use Rattle.joining.specs.Joining.{Joining}
+use Rattle.waiting.specs.Holds.{Holds}
+use Rattle.contours.specs.declared.ContourRange as code
+use Rattle.contours.specs.ContourOf.{contour_of}
+use Rattle.joining.specs.JoinState.{JoinState}
 
 -- who is chosen waits
 pub some_waiting : (p : Plate) (ws : List Waiting) (w : Waiting) → choose p ws ≡ some w → 1 ≤ length ws
@@ -27,12 +28,12 @@ some_waiting p [] w e = absurd (foremost_has (waiting_layer p) closer (λ v. ⊥
 some_waiting p (x ∷ ws) w e = omega arith
 
 -- the code's contour c, entered at vertex v, is the waiting contour w
-pub record Enters (c : code.Contour) (v : ℕ) (w : Waiting) : Type 0 where
+pub record Entry (c : code.ContourRange) (v : ℕ) (w : Waiting) : Type 0 where
   pub contour : contour_of c ≡ w.contour
   pub at : v ≡ w.contour.first + w.kept.entry
 
 -- the contour's numbers, for the functions that draw and settle it
-pub record Within (xs : List Float) (lay : Layout) (c : code.Contour) (v : ℕ) : Type 0 where
+pub record InPlate (xs : List Float) (lay : Layout) (c : code.ContourRange) (v : ℕ) : Type 0 where
   pub number : c.number < lay.contours
   pub low : c.first.0 ≤ v
   pub high : v ≤ c.first.0 + c.last
@@ -40,10 +41,9 @@ pub record Within (xs : List Float) (lay : Layout) (c : code.Contour) (v : ℕ) 
   pub small : c.first.0 + c.last < 65536
   pub long : 2 * (c.first.0 + c.last) + 1 < length xs
 
-module _ (p : Plate) (g : SpatialGrid) (lay : Layout) (room turn count : ℕ) (path : List Float) (ms work : List ℕ) (ds : List Float)
-    (ws : List Waiting) (steps : List Step) (was : List Float) (marked : List ℕ)
-    (j : Joining p g lay room turn count path ms work ds ws steps was marked) (c : code.Contour) (v : ℕ) (w : Waiting) (chosen : choose p ws ≡ some w)
-    (e : Enters c v w) where
+module _ {p : Plate} {g : SpatialGrid} {lay : Layout} {room turn count : ℕ} {path : List Float} {ms work : List ℕ} {ds : List Float}
+    {ws : List Waiting} {steps : List Step} {was : List Float} {marked : List ℕ} (j : JoinState p g lay room turn count path ms work ds ws steps was marked)
+    {c : code.ContourRange} {v : ℕ} {w : Waiting} (chosen : choose p ws ≡ some w) (e : Entry c v w) where
   pub chosen_holds : Holds p.points g lay ds work w
   unfolding choose
   chosen_holds = foremost_has (waiting_layer p) closer (Holds p.points g lay ds work) ws j.lines.held w chosen
@@ -52,9 +52,9 @@ module _ (p : Plate) (g : SpatialGrid) (lay : Layout) (room turn count : ℕ) (p
   unfolding choose
   chosen_sane = foremost_has (waiting_layer p) closer Sane ws j.sane w chosen
 
-  pub within : Within p.points lay c v
+  pub in_plate : InPlate p.points lay c v
   unfolding contour_of
-  within =
+  in_plate =
       let h = chosen_holds in
       let o = h.owned.fits in
       let n = sampled_length (vertex_from p.points w.contour.first) g.cell_size w.contour.last in
@@ -63,12 +63,12 @@ module _ (p : Plate) (g : SpatialGrid) (lay : Layout) (room turn count : ℕ) (p
       let b : c.first.0 ≡ w.contour.first = ap (λ (z : Contour). z.first) e.contour in
       let d : c.last ≡ w.contour.last = ap (λ (z : Contour). z.last) e.contour in
       let pl = j.prepared.plated in
-      let in_plate : c.first.0 + c.last < lay.points = omega (arith, o, n, b, d) in
+      let inside : c.first.0 + c.last < lay.points = omega (arith, o, n, b, d) in
       record {
         number = omega (arith, h.number, a);
         low = omega (arith, e.at, b);
         high = omega (arith, e.at, b, d, s);
-        points = in_plate;
-        small = omega (arith, in_plate, pl.laid.points_small);
-        long = omega (arith, in_plate, pl.long);
+        points = inside;
+        small = omega (arith, inside, pl.laid.points_small);
+        long = omega (arith, inside, pl.long);
       }

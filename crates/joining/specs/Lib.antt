@@ -1,4 +1,4 @@
-pub mod Lent
+pub mod SliceLengths
 pub mod Lines
 pub mod SetUp
-pub mod Joining
+pub mod JoinState

@@ -3,63 +3,26 @@
 
 ghost use Rattle.std.specs.Prelude.{◌≡◌, ◌+◌, ◌*◌, ◌≤◌, ◌<◌, length, IfOk};
 ghost use Rattle.rules.specs.HandedOver.{Plate, plate_of, contours};
-ghost use Rattle.rules.specs.SamplesAndCache.{Waiting};
-ghost use Rattle.rules.specs.RetraceAndMarks.{place_in, entered, retrace_from, retrace};
-ghost use Rattle.start.specs.Oriented.{contour_of, oriented_of};
-ghost use Rattle.packed_contours.specs.Packed.{Placed};
+ghost use Rattle.rules.specs.Retrace.{retrace_from, retrace};
+ghost use Rattle.start.specs.OrientedContours.{oriented_of};
+ghost use Rattle.contours.specs.ContourOf.{contour_of};
+ghost use Rattle.packed_contours.specs.PackedNumbers.{InLengths};
 ghost use Rattle.path_points.specs.Wrote.{Wrote};
-ghost use Rattle.path_points.specs.Writing.{reached, SameWriter, Written, Adds};
-ghost use Rattle.joining.specs.Lent.{Lent};
+ghost use Rattle.path_points.specs.WriterState.{reached, SameWriter};
+ghost use Rattle.joining.specs.SliceLengths.{LongEnough};
 ghost use Rattle.joining.specs.SetUp.{SetUp};
-ghost use Rattle.joining.specs.Joining.{CanJoin, Joined, path_count};
+ghost use Rattle.joining.specs.JoinState.{CanJoin, JoinedByRules, path_count};
 
 use caches::{seed_caches, set_up, settle};
-use choosing::{Candidate, choose_waiting};
-use emission::emit;
+use contours::first_end;
+use emission::{emit, enter};
 use grid::{Grid, polyline_bounding_box};
-use mark_kinds::landing_mark;
-use nearest::nearest;
 use path_points::{Full, PathWriter};
 use plate::checked_input::{CheckedInput, PlatePoints};
-use rules::{Mark, Nearest, PathPlace};
+use rules::Mark;
 use samples::Frame;
-use start::{Oriented, choose_start_contour, first_end};
-
-// The place that was found. `Nearest` and `place_in` are the documents' own: `place_in` gives place 0 where nothing is found, which is where the path
-// has no point.
-fn place_in(found: Nearest) -> PathPlace
-    ensures { result.0 ≡ place_in found }
-{
-    match found {
-        Nearest::Nothing => PathPlace(0),
-        Nearest::Found(place, _) => place,
-    }
-}
-
-// The path with one more contour, entered at a vertex of its own: walked back to the point that is nearest to it now, and on from there.
-fn enter(
-    points: &PlatePoints<'_>,
-    writer: &mut PathWriter<'_>,
-    candidate: Candidate,
-) -> Result<(), Full>
-    requires fits { writer.old.count ≤ writer.old.room }
-    requires some { 1 ≤ writer.old.count }
-    requires entry { (candidate.contour.first.0 ≤ candidate.entry.0) × (candidate.entry.0 ≤ candidate.contour.first.0 + candidate.contour.last) }
-    requires within { candidate.contour.first.0 + candidate.contour.last < 65536 }
-    requires held { 2 * (candidate.contour.first.0 + candidate.contour.last) + 1 < length points.now.coordinates.now }
-    ensures same { SameWriter writer.old writer.new }
-    ensures written { Written writer.old writer.new result }
-    ensures adds { (p : Plate) (w : Waiting) → p.points ≡ points.now.coordinates.now → w.contour ≡ contour_of candidate.contour →
-        candidate.contour.first.0 + w.kept.entry ≡ candidate.entry.0 →
-        Adds points.now.coordinates.now writer.old writer.new result (λ steps. entered p writer.old.grid.spatial steps w) }
-{
-    let v = candidate.entry;
-    let q = points.point_at(v);
-    let h = place_in(nearest(writer.grid, writer.so_far(), writer.work(), q));
-    let landing = landing_mark(writer.point(h), q, v);
-    writer.walk_back(h)?;
-    emit(points, writer, candidate.contour, landing)
-}
+use start::{OrientedContour, choose_start_contour};
+use waiting::{choose_waiting, stop_waiting};
 
 // Contours enter the path one after the other, until nobody waits or the path is full.
 fn join_waiting(
@@ -73,7 +36,7 @@ fn join_waiting(
         writer.old.path.now writer.old.marks.now writer.old.work.now distances.old }
     ensures same { SameWriter writer.old writer.new }
     ensures fits { IfOk result (λ _. writer.new.count ≤ writer.old.room) }
-    ensures joined { Joined frame.now.points.now layers.now frame.now.grid.spatial frame.now.layout writer.old.room writer.old.count
+    ensures joined { JoinedByRules frame.now.points.now layers.now frame.now.grid.spatial frame.now.layout writer.old.room writer.old.count
         writer.old.path.now writer.old.marks.now writer.old.work.now distances.old
         (reached writer.old.room writer.new.count result) writer.new.path.now writer.new.marks.now }
 {
@@ -88,7 +51,7 @@ fn join_waiting(
             break;
         };
         turn += 1;
-        enter(&points, &mut *writer, candidate)?;
+        enter(&points, &mut *writer, candidate.contour, candidate.entry)?;
         // `so_far` would lend the whole writer, and `work` is lent beside it. The path is lent as `&mut` first: of a slice of the writer that is
         // lent as `&` alone the proof knows no more than the length afterwards.
         let end = 2 * writer.count as usize;
@@ -113,11 +76,11 @@ fn join_from(
     frame: &Frame<'_>,
     writer: &mut PathWriter<'_>,
     distances: &mut [f64],
-    s: Oriented,
+    s: OrientedContour,
 ) -> Result<(), Full>
     requires grid { writer.old.grid.spatial ≡ frame.now.grid.spatial }
     requires none { writer.old.count ≡ 0 }
-    requires placed { Placed checked.now.input.lengths.now (contour_of s.contour) }
+    requires placed { InLengths checked.now.input.lengths.now (contour_of s.contour) }
     requires set_up { SetUp checked.now.input frame.now writer.old.room s.contour.number distances.old writer.old.work.now }
     ensures same { SameWriter writer.old writer.new }
     ensures fits { IfOk result (λ _. writer.new.count ≤ writer.old.room) }
@@ -150,7 +113,7 @@ pub fn join_retrace(
     work: &mut [u32],
     distances: &mut [f64],
 ) -> Result<u32, Full>
-    requires { Lent room checked.now.input.lengths.now path.old marks.old work.old distances.old }
+    requires { LongEnough room checked.now.input.lengths.now path.old marks.old work.old distances.old }
     ensures wrote { Wrote checked.now.input.points.now (retrace (plate_of checked.now.input)) room (path_count room result)
         path.old path.new marks.old marks.new }
     ensures fits { IfOk result (λ n. n ≤ room) }
@@ -168,8 +131,7 @@ pub fn join_retrace(
         &mut *distances,
         &mut *work,
     );
-    let a = frame.layout.waiting + (s.contour.number as usize);
-    work[a] = 0;
+    stop_waiting(&mut *work, frame.layout, s.contour.number);
     let mut writer = PathWriter {
         grid,
         room,

@@ -1,4 +1,4 @@
-pub mod Falling
+pub mod FallingLinks
 pub mod Chain
-pub mod Holds
-pub mod Read
+pub mod LandedBefore
+pub mod NextLandings

@@ -2,32 +2,35 @@
 #![tactic(auto)]
 
 ghost use Rattle.std.specs.Prelude.{◌≡◌, Bool, false, ◌||◌, ℕ, suc, ◌/◌, ◌%◌, ◌≤◌, ◌<◌, eqb, length, get_or, set};
+ghost use Rattle.rules.specs.Limits.{highest_vertex};
 ghost use Rattle.landings.specs.Chain.{on_chain};
-ghost use Rattle.landings.specs.Holds.{Holds, Within, SameParts};
+ghost use Rattle.landings.specs.LandedBefore.{LandedBefore, HeadsWithin, SameParts};
 
 mod words;
 
 use rules::Vertex;
 pub use words::Landings;
 
-// The words before the first of n path points.
-pub fn none<'a>(work: &'a mut [u32], n: usize) -> Landings<'a>
-    requires { n ≤ length work.old / 4 }
-    ensures count { length result.vertices.now ≡ n }
-    ensures none { Holds result (λ v. false) 0 }
-{
-    let (vertices, others) = work.split_at_mut(n);
-    let (flags, chains) = others.split_at_mut(n);
-    let (heads, behind) = chains.split_at_mut(n);
-    let (links, _) = behind.split_at_mut(n);
-    flags.fill(0);
-    heads.fill(0);
-    links.fill(0);
-    Landings {
-        vertices,
-        flags,
-        heads,
-        links,
+impl<'a> Landings<'a> {
+    // The words before the first of n path points.
+    pub fn none(work: &'a mut [u32], n: usize) -> Landings<'a>
+        requires { n ≤ length work.old / 4 }
+        ensures count { length result.vertices.now ≡ n }
+        ensures none { LandedBefore result (λ v. false) 0 }
+    {
+        let (vertices, others) = work.split_at_mut(n);
+        let (flags, chains) = others.split_at_mut(n);
+        let (heads, behind) = chains.split_at_mut(n);
+        let (links, _) = behind.split_at_mut(n);
+        flags.fill(0);
+        heads.fill(0);
+        links.fill(0);
+        Landings {
+            vertices,
+            flags,
+            heads,
+            links,
+        }
     }
 }
 
@@ -53,7 +56,7 @@ impl Landings<'_> {
     // Whether vertex v was landed on.
     pub fn has_landed(&self, v: Vertex) -> bool
         requires { 0 < length self.now.vertices.now }
-        ensures { (S : ℕ → Bool) (i : ℕ) → Holds self.now S i → result ≡ S v.0 }
+        ensures { (S : ℕ → Bool) (i : ℕ) → LandedBefore self.now S i → result ≡ S v.0 }
     {
         let vertex = v.0 as usize;
         if vertex < self.vertices.len() {
@@ -67,17 +70,19 @@ impl Landings<'_> {
         requires { i < length self.old.vertices.now }
         ensures same { SameParts self.old self.new }
         ensures vertices { self.new.vertices.now ≡ set self.old.vertices.now i v.0 }
-        ensures holds { (S : ℕ → Bool) → Holds self.old S i → Holds self.new S (suc i) }
+        ensures holds { (S : ℕ → Bool) → LandedBefore self.old S i → LandedBefore self.new S (suc i) }
     {
         self.vertices[i] = v.0;
     }
 
     // Path point i lands on vertex v.
     pub fn land(&mut self, i: usize, v: Vertex)
-        requires { (i < length self.old.vertices.now) × (v.0 ≤ 65535) × Within self.old i }
+        requires place { i < length self.old.vertices.now }
+        requires vertex { v.0 ≤ highest_vertex }
+        requires heads { HeadsWithin self.old i }
         ensures same { SameParts self.old self.new }
         ensures vertices { self.new.vertices.now ≡ set self.old.vertices.now i v.0 }
-        ensures holds { (S : ℕ → Bool) → Holds self.old S i → Holds self.new (λ u. S u || eqb v.0 u) (suc i) }
+        ensures holds { (S : ℕ → Bool) → LandedBefore self.old S i → LandedBefore self.new (λ u. S u || eqb v.0 u) (suc i) }
     {
         let count = self.vertices.len();
         let number = v.0;

@@ -1,6 +1,6 @@
 // The words of the work slice while a path is read.
 
-ghost use Rattle.landings.specs.Falling.{Falling, falling_prop};
+ghost use Rattle.landings.specs.FallingLinks.{Falling, falling_prop};
 
 // The words while a path is read, in four parts of the work slice that the caller lends, each as long as the path has points: the vertex of each path point
 // so far; for each vertex below this length whether it was landed on, 1 or 0; and the heads and links of chains of the path points that landed on a higher one,

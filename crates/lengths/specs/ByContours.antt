@@ -5,23 +5,22 @@ use Rattle.std.proofs.Common.{ap, ◌∙◌, inl, inr, zero-add, arith}
 use Rattle.std.proofs.Math.Path.{fun_ext}
 use Rattle.rules.specs.Tools.{pick, sum, up_from}
 use Rattle.rules.specs.HandedOver.{Plate, Contour, at, contours}
-use Rattle.rules.specs.RetraceAndMarks.{start_kind, cut_kind, Step, land, cut_up, cut_down, back_step, step_at, vertex_of, retrace, coordinates, marks}
+use Rattle.rules.specs.Retrace.{step_at, vertex_of, retrace}
+use Rattle.rules.specs.Marks.{start_kind, cut_kind, Step, land, cut_up, cut_down, back_step, coordinates, marks, vertices}
 use Rattle.rules.specs.Lengths.{pair_length, segment_length, contour_length, plate_length, is_cut, is_touch, counted_length, length_along}
-use Rattle.rules.specs.Calls.{vertices}
-use Rattle.statement.specs.PathStatement.{contour_count, itself, Cut, Pair}
-use Rattle.path.specs.Lists.{all_up_from}
-use Rattle.path.specs.Sums.{sum_zeros}
-use Rattle.path.specs.Accepted.{Measurable}
-use Rattle.path.specs.Start.{AllTakePart}
-use Rattle.path.specs.Pairs.{Divided, divided_some, divided_start, divided_pairs}
-use Rattle.path.specs.Entering.{retrace_divided}
+use Rattle.statement.specs.Division.{itself, Cut}
+use Rattle.rules.specs.Contours.{contour_count}
+use Rattle.plate_laws.specs.Lists.{all_up_from}
+use Rattle.plate_laws.specs.Sums.{sum_zeros, sum_same}
+use Rattle.plate_laws.specs.Accepted.{Measurable}
+use Rattle.plate_laws.specs.Start.{AllTakePart}
+use Rattle.path.specs.Pairs.{PlatePair, Divided, divided_some, divided_start, divided_pairs}
+use Rattle.path.specs.JumpsAndTouches.{retrace_divided}
 use Rattle.path.specs.Shares.{Weights, share, retrace_total}
-use Rattle.path.specs.Slices.{kind_at_lem}
+use Rattle.plate_laws.specs.Slices.{kind_at_lem, point_is}
 use Rattle.path.specs.Blank.{retrace_empty}
-use Rattle.division.specs.Tallies.{sum_same}
-use Rattle.lengths.specs.EitherEnd.{pair_swap}
+use Rattle.length_laws.specs.EitherEnd.{pair_swap}
 use Rattle.lengths.specs.Touches.{touch_adds_nothing}
-use Rattle.lengths.specs.Walks.{point_is}
 
 -- ---- sums
 
@@ -63,7 +62,7 @@ cut_is_segment p v k r c = go c.sense
     go (inr x) = rw (x.0, x.1) (pair_swap _ _)
 
 -- of path points k and k + 1
-pair_weighs : (p : Plate) (v : ℕ → ℕ) (k kind r : ℕ) → Pair p v k kind r →
+pair_weighs : (p : Plate) (v : ℕ → ℕ) (k kind r : ℕ) → PlatePair p v k kind r →
     pick (is_cut kind) (pair_length (at p.points (v k)) (at p.points (v (suc k)))) 0 ≡ pick (eqb kind cut_kind) (segment_length p r) 0
 unfolding pick
 pair_weighs p v k kind r (inl (e, c), n) = ap (λ (l : ℕ). pick (eqb kind cut_kind) l 0) (cut_is_segment p v k r c)
@@ -72,7 +71,7 @@ pair_weighs p v k kind r (inr (inr (inl (e, t), c)), n) = rw e
 pair_weighs p v k kind r (inr (inr (inr (e, t), c)), n) = rw e
 
 -- a touch goes between equal points, and other kinds are not counted
-touch_of : (p : Plate) (v : ℕ → ℕ) (k kind r : ℕ) → Pair p v k kind r →
+touch_of : (p : Plate) (v : ℕ → ℕ) (k kind r : ℕ) → PlatePair p v k kind r →
     pick (is_touch kind) (pair_length (at p.points (v k)) (at p.points (v (suc k)))) 0 ≡ 0
 unfolding pick
 touch_of p v k kind r (inl (e, c), n) = rw e
@@ -89,7 +88,7 @@ module _ (p : Plate) (path : List Step) (d : Divided p path) where
   counted_weighs : (k : ℕ) → suc k < length path → counted_length is_cut xs (marks path) k ≡ weight p (step_at path (suc k))
   unfolding counted_length
   counted_weighs k h =
-      rw (kind_at_lem path (suc k) h, point_is p path k (omega arith), point_is p path (suc k) h)
+      rw (kind_at_lem path (suc k) h, point_is p.points path k (omega arith), point_is p.points path (suc k) h)
       (pair_weighs p (vertex_of path) k _ _ (divided_pairs p path d k h))
 
   start_weighs : weight p (step_at path 0) ≡ 0
@@ -113,7 +112,7 @@ module _ (p : Plate) (path : List Step) (d : Divided p path) where
   touch_adds : (k : ℕ) → suc k < length path → counted_length is_touch xs (marks path) k ≡ 0
   unfolding counted_length
   touch_adds k h =
-      rw (kind_at_lem path (suc k) h, point_is p path k (omega arith), point_is p path (suc k) h)
+      rw (kind_at_lem path (suc k) h, point_is p.points path k (omega arith), point_is p.points path (suc k) h)
       (touch_of p (vertex_of path) k _ _ (divided_pairs p path d k h))
 
   pub touches_along : length_along is_touch (length path) xs (marks path) ≡ 0
@@ -123,11 +122,11 @@ module _ (p : Plate) (path : List Step) (d : Divided p path) where
 -- ---- the whole path
 
 -- the cuts of a plate's path are as long as the plate, and its touches have no length
-pub record Summed (p : Plate) : Type 0 where
+pub record AsLongAsPlate (p : Plate) : Type 0 where
   pub cuts : length_along is_cut (length (retrace p)) (coordinates p.points (vertices (retrace p))) (marks (retrace p)) ≡ plate_length p
   pub touches : length_along is_touch (length (retrace p)) (coordinates p.points (vertices (retrace p))) (marks (retrace p)) ≡ 0
 
-some_contour : (p : Plate) → Measurable p → AllTakePart p → 1 ≤ contour_count p → Summed p
+some_contour : (p : Plate) → Measurable p → AllTakePart p → 1 ≤ contour_count p → AsLongAsPlate p
 unfolding plate_length contour_length share
 some_contour p m t h =
     let d = retrace_divided p m t h in
@@ -135,14 +134,14 @@ some_contour p m t h =
     let same = ap (λ (f : Contour → ℕ). sum (map f (contours p))) (fun_ext (λ c. zero-add (sum (map (segment_length p) (up_from c.first c.last))))) in
     record { cuts = omega (arith, cuts_along p (retrace p) d, total, same); touches = touches_along p (retrace p) d }
 
-no_contour : (p : Plate) → contours p ≡ [] → Summed p
+no_contour : (p : Plate) → contours p ≡ [] → AsLongAsPlate p
 unfolding length_along plate_length sum
 no_contour p e = record { cuts = rw (retrace_empty p e, e); touches = rw (retrace_empty p e) }
 
-pub retrace_summed : (p : Plate) → Measurable p → AllTakePart p → Summed p
+pub retrace_summed : (p : Plate) → Measurable p → AllTakePart p → AsLongAsPlate p
 unfolding contour_count
 retrace_summed p m t = go (contours p) refl
   where
-    go : (cs : List Contour) → contours p ≡ cs → Summed p
+    go : (cs : List Contour) → contours p ≡ cs → AsLongAsPlate p
     go [] e = no_contour p e
     go (c ∷ cs) e = some_contour p m t (omega (arith, ap length e))

@@ -1,9 +1,4 @@
-pub mod Walked
-pub mod EitherEnd
 pub mod Touches
-pub mod Roots
-pub mod Truncated
-pub mod Adding
 pub mod Walks
 pub mod ByContours
 pub mod Theorem

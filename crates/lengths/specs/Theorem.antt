@@ -16,15 +16,16 @@
 use Rattle.std.specs.Prelude.{◌≡◌, ℕ, ◌*◌, length}
 use Rattle.std.proofs.Common.{sym, ap, ◌∙◌, arith}
 use Rattle.rules.specs.HandedOver.{retrace_room}
-use Rattle.rules.specs.RetraceAndMarks.{retrace, coordinates, marks}
+use Rattle.rules.specs.Retrace.{retrace}
+use Rattle.rules.specs.Marks.{coordinates, marks, vertices}
 use Rattle.rules.specs.Lengths.{is_touch, length_along}
-use Rattle.rules.specs.Calls.{totals, path_totals, vertices, retrace_call}
+use Rattle.rules.specs.Calls.{totals, path_totals, retrace_call}
 use Rattle.statement.specs.HowNear.{IsAccepted}
 use Rattle.statement.specs.Quotation.{LengthStatement, LengthsByRules}
 use Rattle.rules.specs.declared.Totals.{Totals}
-use Rattle.path.specs.Accepted.{input_gives, accepted_measurable}
-use Rattle.path.specs.Start.{layered_part}
-use Rattle.path.specs.Slices.{coordinates_length, marks_length, vertices_length}
+use Rattle.plate_laws.specs.Accepted.{input_gives, accepted_measurable}
+use Rattle.plate_laws.specs.Start.{layered_part}
+use Rattle.plate_laws.specs.Slices.{coordinates_length, marks_length, vertices_length}
 use Rattle.path.specs.Theorem.{retrace_gives, slice_after}
 use Rattle.lengths.specs.ByContours.{retrace_summed}
 

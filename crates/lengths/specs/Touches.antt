@@ -10,7 +10,7 @@ use Rattle.std.specs.Float.Ieee.Fits.{down_pos}
 use Rattle.std.specs.Float.Ieee.Scale.{round_same}
 use Rattle.rules.specs.Distances.{mul_add, sqrt, distance_squared, distance}
 use Rattle.rules.specs.Lengths.{in_1024ths, pair_length}
-use Rattle.rules.specs.RetraceAndMarks.{coincide}
+use Rattle.rules.specs.Marks.{coincide}
 use Rattle.rules.specs.declared.Point.{Point}
 
 -- a zero or a NaN

@@ -1,5 +1,5 @@
 pub mod Bytes
 pub mod Numbers
-pub mod Stepping
+pub mod PatternSteps
 pub mod Widths
 pub mod ByteRows

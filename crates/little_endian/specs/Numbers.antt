@@ -1,6 +1,6 @@
 -- Numbers as bytes and back: little-endian numbers, and f64 bit patterns. Assumes nothing.
-use Rattle.std.specs.Prelude.{◌≡◌, refl, not, List, [], ◌∷◌, ◌++◌, ℕ, zero, suc, ◌+◌, ◌*◌, ◌/◌, ◌%◌, ◌^◌, ◌≤◌, ◌<◌, T, length, get_or, take, drop, set, Float}
-use Rattle.std.proofs.Common.{sym, ap, ap₂, ◌∙◌, subst, append_assoc, pow-suc, add-zero, zero-add, arith, length-append, length-drop, take-append-drop, drop-cons, drop-drop, take-add, length-take-le, take_at, drop_at}
+use Rattle.std.specs.Prelude.{◌≡◌, refl, not, List, [], ◌∷◌, ◌++◌, ℕ, zero, suc, ◌+◌, ◌*◌, ◌/◌, ◌%◌, ◌^◌, ◌≤◌, ◌<◌, T, length, take, drop, set, Float}
+use Rattle.std.proofs.Common.{sym, ap, ap₂, ◌∙◌, subst, append_assoc, pow-suc, add-zero, zero-add, arith, length-append, length-drop, take-append-drop, length-take-le, take_at, drop_at}
 use Rattle.std.proofs.Math.Nat.{pow-succ', div-div-eq-div-mul}
 use Rattle.std.proofs.lemmas.List.Edits.{sets}
 use Rattle.std.proofs.lemmas.List.{take-append-le, drop-append-le}
@@ -8,8 +8,8 @@ use Rattle.std.specs.Float.{binary64}
 use Rattle.std.specs.Float.Ieee.{is_nan, of_bits, to_bits}
 use Rattle.std.specs.Float.Ieee.Bits.{of_bits-to_bits, to_bits-of_bits, to_bits-lt}
 use Rattle.rules.specs.HandedOver.{IsF64}
-use Rattle.path.specs.Lists.{All, all_append, all_take, all_drop}
-use Rattle.little_endian.specs.Bytes.{IsByte, to_bytes, from_bytes, part, field, words, patterns, floats}
+use Rattle.plate_laws.specs.Lists.{All, all_take, all_drop}
+use Rattle.little_endian.specs.Bytes.{IsByte, to_bytes, from_bytes, words, patterns, floats}
 
 -- ---- bytes
 
@@ -17,11 +17,6 @@ pub bytes_length : (n x : ℕ) → length (to_bytes n x) ≡ n
 unfolding to_bytes
 bytes_length zero x = refl
 bytes_length (suc n) x = ap suc (bytes_length n (x / 256))
-
-pub bytes_are : (n x : ℕ) → All IsByte (to_bytes n x)
-unfolding to_bytes
-bytes_are zero x = tt
-bytes_are (suc n) x = (omega arith, bytes_are n (x / 256))
 
 pub number_bytes : (n x : ℕ) → x < 256 ^ n → from_bytes (to_bytes n x) ≡ x
 unfolding from_bytes to_bytes
@@ -31,7 +26,7 @@ number_bytes (suc n) x h =
     let l : x / 256 < 256 ^ n = omega arith in
     omega (arith, number_bytes n (x / 256) l)
 
-pub bytes_number : (bs : List ℕ) → All IsByte bs → to_bytes (length bs) (from_bytes bs) ≡ bs
+bytes_number : (bs : List ℕ) → All IsByte bs → to_bytes (length bs) (from_bytes bs) ≡ bs
 unfolding from_bytes to_bytes
 bytes_number [] a = refl
 bytes_number (b ∷ bs) a =
@@ -60,11 +55,6 @@ pub patterns_length : (xs : List Float) → length (patterns xs) ≡ 8 * length 
 unfolding patterns
 patterns_length [] = refl
 patterns_length (x ∷ xs) = simp length-append (omega (arith, bytes_length 8 (to_bits binary64 x), patterns_length xs))
-
-pub patterns_are : (xs : List Float) → All IsByte (patterns xs)
-unfolding patterns
-patterns_are [] = tt
-patterns_are (x ∷ xs) = all_append IsByte (to_bytes 8 (to_bits binary64 x)) (patterns xs) (bytes_are 8 (to_bits binary64 x)) (patterns_are xs)
 
 pub floats_length : (n : ℕ) (bs : List ℕ) → length (floats n bs) ≡ n
 unfolding floats
@@ -129,33 +119,3 @@ sets_append xs i [] cs = rw (add-zero i)
 sets_append xs i (b ∷ bs) cs =
     let e : i + suc (length bs) ≡ suc i + length bs = omega arith in
     rw e (sets_append (set xs i b) (suc i) bs cs)
-
-number_append : (bs cs : List ℕ) → from_bytes (bs ++ cs) ≡ from_bytes bs + 256 ^ length bs * from_bytes cs
-unfolding from_bytes
-number_append [] cs = omega arith
-number_append (b ∷ bs) cs = rw (pow-suc 256 (length bs), number_append bs cs) (omega arith)
-
--- two fields side by side
-pub field_append : (i m n : ℕ) (bs : List ℕ) → i + m ≤ length bs → field i (m + n) bs ≡ field i m bs + 256 ^ m * field (i + m) n bs
-unfolding field part
-field_append i m n bs h =
-    rw (take-add m n (drop i bs), drop-drop m i bs)
-    (number_append (take m (drop i bs)) (take n (drop (i + m) bs)) ∙ rw (length-take-le m (drop i bs) (omega (arith, length-drop i bs))))
-
-pub field_two : (i : ℕ) (bs : List ℕ) → i + 2 ≤ length bs → field i 2 bs ≡ get_or bs i 0 + 256 * get_or bs (i + 1) 0
-unfolding field part from_bytes
-field_two i bs h =
-    let e : i + 1 ≡ suc i = omega arith in
-    rw (drop-cons bs i 0 (omega arith), drop-cons bs (suc i) 0 (omega arith), e) (omega arith)
-
--- two stores, and two halves
-pub put_two : (bs : List ℕ) (i x a b : ℕ) → a ≡ x % 256 → b ≡ x / 256 % 256 → set (set bs i a) (i + 1) b ≡ sets bs i (to_bytes 2 x)
-unfolding to_bytes
-put_two bs i x a b e f = let g : i + 1 ≡ suc i = omega arith in rw (e, f, g)
-
-pub put_both : (n : ℕ) (bs half all : List ℕ) (i x : ℕ) → half ≡ sets bs i (to_bytes n x) → all ≡ sets half (i + n) (to_bytes n (x / 256 ^ n)) →
-    all ≡ sets bs i (to_bytes (n + n) x)
-put_both n bs half all i x e f =
-    f
-    ∙ ap (λ (r : List ℕ). sets r (i + n) (to_bytes n (x / 256 ^ n))) e
-    ∙ rw (bytes_append n n x, sets_append bs i (to_bytes n x) (to_bytes n (x / 256 ^ n)), bytes_length n x)

@@ -1,30 +1,16 @@
 -- Numbers of any width, one byte a turn, and slices of f64 bit patterns, one number a turn. Assumes nothing.
-use Rattle.std.specs.Prelude.{◌≡◌, List, [], ◌∷◌, ◌++◌, ℕ, suc, ◌+◌, ◌*◌, ◌/◌, ◌%◌, ◌^◌, ◌≤◌, ◌<◌, Float, length, get_or, take, drop, set}
-use Rattle.std.proofs.Common.{sym, ◌∙◌, pow-suc, mul_comm, arith, drop-cons}
+use Rattle.std.specs.Prelude.{◌≡◌, List, ◌++◌, ℕ, suc, ◌+◌, ◌*◌, ◌/◌, ◌^◌, ◌≤◌, ◌<◌, Float, length, get_or, take, drop, set}
+use Rattle.std.proofs.Common.{sym, ◌∙◌, pow-suc, mul_comm, arith}
 use Rattle.std.proofs.Math.Nat.{pow-succ', pow-le-pow_right, div-div-eq-div-mul}
 use Rattle.std.proofs.lemmas.List.Edits.{sets, sets-eq}
 use Rattle.std.specs.Float.{nan, binary64}
 use Rattle.std.specs.Float.Ieee.{to_bits, of_bits}
-use Rattle.little_endian.specs.Bytes.{to_bytes, from_bytes, part, field, patterns, floats}
-use Rattle.little_endian.specs.Numbers.{bytes_length, bytes_append, sets_append, floats_length}
-use Rattle.little_endian.specs.Stepping.{put_step, read_step}
-
-pub field_cons : (bs : List ℕ) (k m : ℕ) → k < length bs → field k (suc m) bs ≡ get_or bs k 0 + 256 * field (k + 1) m bs
-unfolding field part from_bytes
-field_cons bs k m h = let e : k + 1 ≡ suc k = omega arith in rw (drop-cons bs k 0 h, e)
-
--- one more byte behind those that were written
-pub put_more : (b₀ : List ℕ) {b : List ℕ} (i k x : ℕ) {left : ℕ} → left ≡ x / 256 ^ k → b ≡ sets b₀ i (to_bytes k x) →
-    set b (i + k) (left % 256) ≡ sets b₀ i (to_bytes (k + 1) x)
-unfolding to_bytes
-put_more b₀ i k x e f = rw (bytes_append k 1 x, sets_append b₀ i (to_bytes k x) (x / 256 ^ k % 256 ∷ []), bytes_length k x, ← f, e)
+use Rattle.little_endian.specs.Bytes.{to_bytes, field, patterns, floats}
+use Rattle.little_endian.specs.Numbers.{floats_length}
+use Rattle.little_endian.specs.PatternSteps.{put_step, read_step}
 
 pub left_more : (k x : ℕ) {left : ℕ} → left ≡ x / 256 ^ k → left / 256 ≡ x / 256 ^ (k + 1)
 left_more k x e = let g : k + 1 ≡ suc k = omega arith in rw (e, div-div-eq-div-mul x (256 ^ k) 256, g, pow-succ' 256 k, mul_comm (256 ^ k) 256)
-
--- one more byte before those that were read, which are m
-pub read_more : (bs : List ℕ) (k m : ℕ) {x y : ℕ} → k < length bs → x ≡ field (k + 1) m bs → y ≡ 256 * x + get_or bs k 0 → y ≡ field k (m + 1) bs
-read_more bs k m h e f = let g : m + 1 ≡ suc m = omega arith in rw g (omega (arith, e, f, field_cons bs k m h))
 
 pub small_more : (m : ℕ) {x b : ℕ} → x < 256 ^ m → b < 256 → 256 * x + b < 256 ^ (m + 1)
 small_more m h l = let g : m + 1 ≡ suc m = omega arith in rw (g, pow-suc 256 m) (omega arith)

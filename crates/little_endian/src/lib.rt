@@ -3,7 +3,7 @@
 
 ghost use Rattle.std.specs.Prelude.{◌≡◌, ◌+◌, ◌*◌, ◌^◌, ◌≤◌, ◌<◌, length, drop};
 ghost use Rattle.std.proofs.lemmas.List.Edits.{sets};
-ghost use Rattle.path.specs.Lists.{All};
+ghost use Rattle.plate_laws.specs.Lists.{All};
 ghost use Rattle.little_endian.specs.Bytes.{to_bytes, field, patterns, floats};
 ghost use Rattle.little_endian.specs.Numbers.{NoNan};
 

@@ -37,7 +37,9 @@ pub fn magnitude_of(x: f64) -> Scaled
 
 // The same number in units of 2^-1138, with 61 digits: a shift by n leaves 64 - n for the exponent. Only a subnormal number's digits have to be counted.
 pub fn normalized(m: Scaled) -> Scaled
-    requires { (0 < m.significand) × (m.significand < 2 ^ 53) × (m.exponent ≤ 2045) }
+    requires nonzero { 0 < m.significand }
+    requires fits { m.significand < 2 ^ 53 }
+    requires in_range { m.exponent ≤ 2045 }
     ensures { Normalized m.significand m.exponent result.significand result.exponent }
 {
     if m.significand >= 4503599627370496 {

@@ -2,13 +2,12 @@
 #![tactic(auto)]
 
 ghost use Rattle.std.specs.Prelude.{◌≡◌, ◌+◌, ◌*◌, ◌<◌, ◌≤◌, ◌↔◌, length, IsSome, IfSome};
-ghost use Rattle.rules.specs.Marks.{kind_of, reference_of};
-ghost use Rattle.rules.specs.RetraceAndMarks.{landing_kind, kind_at, reference_at};
+ghost use Rattle.rules.specs.Marks.{kind_of, reference_of, landing_kind, kind_at, reference_at};
 
 use rules::{Mark, Point, Vertex};
 
 // The mark of path point i, where it has a kind.
-#[tactic(auto, unfolding(rules::specs::RetraceAndMarks::kind_at, rules::specs::RetraceAndMarks::reference_at))]
+#[tactic(auto, unfolding(rules::specs::Marks::kind_at, rules::specs::Marks::reference_at))]
 pub fn mark_at(marks: &[u32], i: usize) -> Option<Mark>
     requires { 2 * i + 1 < length marks.now }
     ensures known { IsSome result ↔ (kind_at marks.now i ≤ 4) }
@@ -18,7 +17,7 @@ pub fn mark_at(marks: &[u32], i: usize) -> Option<Mark>
 }
 
 // From the point left to vertex v's, the landing: a touch is a jump between equal points.
-#[tactic(auto, unfolding(rules::specs::RetraceAndMarks::landing_kind, rules::specs::RetraceAndMarks::coincide, rules::specs::Tools::pick))]
+#[tactic(auto, unfolding(rules::specs::Marks::landing_kind, rules::specs::Marks::coincide, rules::specs::Tools::pick))]
 pub fn landing_mark(left: Point, landing: Point, v: Vertex) -> Mark
     ensures kind { kind_of result ≡ landing_kind left landing }
     ensures reference { reference_of result ≡ v.0 }

@@ -1,2 +1,2 @@
 pub mod Backwards
-pub mod Totalled
+pub mod TotalsByPoint

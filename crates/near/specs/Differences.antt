@@ -4,10 +4,10 @@ use Rattle.std.proofs.Math.Decide.{dec_lt}
 use Rattle.std.proofs.Common.{arith}
 use Rattle.std.specs.Float.{nan, inf, fin, binary64}
 use Rattle.std.specs.Float.Ieee.{up, down, sub}
-use Rattle.bounds.specs.Rounded.{Most}
-use Rattle.bounds.specs.Units.{At}
-use Rattle.bounds.specs.Sums.{sub_up, sub_down}
-use Rattle.bounds.specs.Coords.{Coord}
+use Rattle.rounding_errors.specs.NearFraction.{Most}
+use Rattle.rounding_errors.specs.Units.{At}
+use Rattle.rounding_errors.specs.Sums.{sub_up, sub_down}
+use Rattle.rounding_errors.specs.Coords.{Coord}
 use Rattle.near.specs.Ratios.{at_num}
 use Rattle.near.specs.Products.{Mag}
 

@@ -1,10 +1,9 @@
 pub mod Ratios
 pub mod Products
 pub mod Differences
-pub mod Placed
+pub mod AlongAxis
 pub mod RingBounds
-pub mod Boxed
+pub mod BoxBounds
 pub mod Search
 pub mod Landings
-pub mod EitherWay
 pub mod Theorem

@@ -8,11 +8,11 @@ use Rattle.std.specs.Float.Ieee.Exact.{HasValue, round_exact}
 use Rattle.std.specs.Float.Ieee.Positive.{num, den, den_pos, positive, first_pos, mul_at}
 use Rattle.std.specs.Float.Ieee.Scale.{grid, finite, round_val, round_under}
 use Rattle.rules.specs.Distances.{mul_add}
-use Rattle.path.specs.FloatOrder.{Plus}
-use Rattle.path.specs.FiniteDistances.{unlike_self}
-use Rattle.bounds.specs.Rounded.{Most, most_cancel, Near, grid_near}
-use Rattle.bounds.specs.Units.{At, value_at, positive_at}
-use Rattle.bounds.specs.Results.{fraction_result}
+use Rattle.plate_laws.specs.FloatOrder.{Plus}
+use Rattle.plate_laws.specs.FiniteDistances.{unlike_self}
+use Rattle.rounding_errors.specs.NearFraction.{Most, most_cancel, Near, grid_near}
+use Rattle.rounding_errors.specs.Units.{At, value_at, positive_at}
+use Rattle.rounding_errors.specs.Results.{fraction_result}
 use Rattle.near.specs.Ratios.{most_trans, most_weak, most_half, at_num}
 
 -- ---- a whole number below 2 ^ 53 is exact
@@ -104,7 +104,7 @@ pub record Mag (x : Float) (D : ℕ) : Type 0 where
   pub size : num x * 2 ^ 1074 ≡ D * den x
 
 -- the squared distance of dx and dy is F units, and is not below either square
-pub record Squared (d : Float) (X Y : ℕ) : Type 0 where
+pub record SquareUnits (d : Float) (X Y : ℕ) : Type 0 where
   pub F : ℕ
   pub at : At binary64 d F 0
   pub by_x : 2 ^ 53 * 2 ^ 1074 ≤ X * X → Most (2 ^ 53) 3 (X * X) (F * 2 ^ 1074)
@@ -121,7 +121,7 @@ plus_finite (fin true m e) h = elim h [ ]
 plus_finite (fin false m e) h = tt
 
 pub squared_at : (x y : Float) (X Y : ℕ) → Mag x X → Mag y Y → Plus (mul binary64 y y) → Plus (mul_add binary64 x x (mul binary64 y y)) →
-    Squared (mul_add binary64 x x (mul binary64 y y)) X Y
+    SquareUnits (mul_add binary64 x x (mul binary64 y y)) X Y
 squared_at x y X Y hx hy pz pd =
     let L = 2 ^ 1074 in
     let z = mul binary64 y y in

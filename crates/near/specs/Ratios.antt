@@ -5,9 +5,9 @@ use Rattle.std.specs.Float.{nan, inf, fin, binary64}
 use Rattle.std.specs.Float.Ieee.{up, down, lt}
 use Rattle.std.specs.Float.Ieee.Positive.{num, den, den_pos}
 use Rattle.std.specs.Float.Ieee.Scale.{finite}
-use Rattle.path.specs.FloatOrder.{Plus}
-use Rattle.bounds.specs.Rounded.{Most}
-use Rattle.bounds.specs.Units.{At}
+use Rattle.plate_laws.specs.FloatOrder.{Plus}
+use Rattle.rounding_errors.specs.NearFraction.{Most}
+use Rattle.rounding_errors.specs.Units.{At}
 use Rattle.statement.specs.HowNear.{Slack, NearlyAtMost}
 
 -- ---- factors 1 + i / K: `Most K i a b` says that a ≤ b * (1 + i / K)

@@ -9,17 +9,17 @@ use Rattle.rules.specs.GridAndNearest.{cell_of, bound}
 use Rattle.rules.specs.declared.Point.{Point}
 use Rattle.rules.specs.declared.BoundingBox.{BoundingBox}
 use Rattle.rules.specs.declared.SpatialGrid.{SpatialGrid}
-use Rattle.path.specs.FloatOrder.{Plus}
-use Rattle.path.specs.FiniteDistances.{on_plate_most, sub_most, square_most, plus_of, distance_plus}
-use Rattle.bounds.specs.Rounded.{Most, most_cancel}
-use Rattle.bounds.specs.Units.{At}
-use Rattle.bounds.specs.Coords.{coord_of}
-use Rattle.bounds.specs.Gridded.{Gridded}
+use Rattle.plate_laws.specs.FloatOrder.{Plus}
+use Rattle.plate_laws.specs.FiniteDistances.{on_plate_most, sub_most, square_most, plus_of, distance_plus}
+use Rattle.rounding_errors.specs.NearFraction.{Most, most_cancel}
+use Rattle.rounding_errors.specs.Units.{At}
+use Rattle.rounding_errors.specs.Coords.{coord_of}
+use Rattle.rounding_errors.specs.BoxGrid.{SoundGrid}
 use Rattle.statement.specs.HowNear.{Slack}
 use Rattle.near.specs.Ratios.{most_trans, most_mul, most_40, most_half, Ratio, units_ratio}
 use Rattle.near.specs.Products.{whole_at, mul_up, half_normal, squared_at}
 use Rattle.near.specs.Differences.{difference}
-use Rattle.near.specs.Placed.{Apart, one_less, OnAxis, FarAlong, far_along}
+use Rattle.near.specs.AlongAxis.{CellsApart, one_less, OnAxis, FarAlong, far_along}
 
 -- ---- the bound of a ring: q is r - 1, S the cell size, E their product rounded, and B its square rounded
 
@@ -116,7 +116,7 @@ pub record Clear (bnd f : Float) : Type 0 where
   pub fine : T (finite bnd)
   pub ratio : Ratio bnd f
 
-module _ (b : BoundingBox) (g : SpatialGrid) (G : Gridded b g) (P Q : Point) (hP : OnAxes b P) (hQ : OnAxes b Q) where
+module _ (b : BoundingBox) (g : SpatialGrid) (G : SoundGrid b g) (P Q : Point) (hP : OnAxes b P) (hQ : OnAxes b Q) where
   dx : Float
   dx = sub binary64 P.x Q.x
 
@@ -151,7 +151,7 @@ module _ (b : BoundingBox) (g : SpatialGrid) (G : Gridded b g) (P Q : Point) (hP
       under : (r : ℕ) → r ≤ 53 → r - 1 ≤ 53
       under r h = omega arith
 
-  pub far_bound : (r : ℕ) → 2 ≤ r → Apart r (cell_of g P).col (cell_of g Q).col ⊎ Apart r (cell_of g P).row (cell_of g Q).row →
+  pub far_bound : (r : ℕ) → 2 ≤ r → CellsApart r (cell_of g P).col (cell_of g Q).col ⊎ CellsApart r (cell_of g P).row (cell_of g Q).row →
       Clear (bound g r) (distance_squared P Q)
   unfolding cell_of dx dy
   far_bound r hr (inl h) =

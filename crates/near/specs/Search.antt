@@ -10,20 +10,20 @@ use Rattle.std.specs.Float.Ieee.{lt}
 use Rattle.std.proofs.Math.Facts.{and_yes}
 use Rattle.rules.specs.Distances.{distance_squared}
 use Rattle.rules.specs.GridAndNearest.{Cell, cell_of, square, on_border, PathPoint, seen_from, scan_ring, bound, beyond, scan_from, nearest}
-use Rattle.rules.specs.RetraceAndMarks.{place_in}
+use Rattle.rules.specs.Retrace.{place_in}
 use Rattle.rules.specs.declared.Point.{Point}
 use Rattle.rules.specs.declared.BoundingBox.{BoundingBox}
 use Rattle.rules.specs.declared.SpatialGrid.{SpatialGrid}
 use Rattle.rules.specs.declared.Nearest.{Nearest}
 use Rattle.rules.specs.declared.Nearest.TheVariants.{Found, Nothing}
-use Rattle.path.specs.Lists.{All, all_of, all_give, all_both}
-use Rattle.path.specs.Squares.{InSquare, OnSide, is_border}
-use Rattle.path.specs.Rings.{ring_keeps, Measured, MeasuredBest, Settled, nearer_measured, Kept, nearer_keeps, ring_settles}
-use Rattle.path.specs.Nearest.{seen, all_seen, seen_at, FoundWith, OfPath, nearest_found, col_in, row_in}
-use Rattle.bounds.specs.Gridded.{Gridded}
+use Rattle.plate_laws.specs.Lists.{All, all_of, all_give, all_both}
+use Rattle.plate_laws.specs.Squares.{InSquare, OnSide, is_border}
+use Rattle.plate_laws.specs.Rings.{ring_keeps, Measured, MeasuredBest, Settled, nearer_measured, Kept, nearer_keeps, ring_settles}
+use Rattle.plate_laws.specs.Nearest.{seen, all_seen, seen_at, FoundWith, OfPath, nearest_found, col_in, row_in}
+use Rattle.rounding_errors.specs.BoxGrid.{SoundGrid}
 use Rattle.statement.specs.HowNear.{NearlyAtMost}
 use Rattle.near.specs.Ratios.{ratio_near, not_lt_near, lt_ratio}
-use Rattle.near.specs.Placed.{Apart}
+use Rattle.near.specs.AlongAxis.{CellsApart}
 use Rattle.near.specs.RingBounds.{OnAxes, axes_plus, Clear, far_bound}
 
 -- ---- how far a cell is from another
@@ -36,7 +36,7 @@ record Closer (r : ℕ) (q c : Cell) : Type 0 where
   above : q.row < c.row + r
 
 abbrev Off : ℕ → Cell → Cell → Type 0
-Off r q c = Apart r q.col c.col ⊎ Apart r q.row c.row
+Off r q c = CellsApart r q.col c.col ⊎ CellsApart r q.row c.row
 
 closer? : (r : ℕ) (q c : Cell) → Closer r q c ⊎ Off r q c
 closer? r q c = go (dec_lt c.col (q.col + r)) (dec_lt q.col (c.col + r)) (dec_lt c.row (q.row + r)) (dec_lt q.row (c.row + r))
@@ -48,11 +48,11 @@ closer? r q c = go (dec_lt c.col (q.col + r)) (dec_lt q.col (c.col + r)) (dec_lt
     go (yes h) (yes i) (no j) k = inr (inr (inl (omega arith)))
     go (yes h) (yes i) (yes j) (no k) = inr (inr (inr (omega arith)))
 
-abbrev InGrid : SpatialGrid → Cell → Type 0
-InGrid g c = (c.col ≤ g.cols - 1) × (c.row ≤ g.rows - 1)
+abbrev WithinGrid : SpatialGrid → Cell → Type 0
+WithinGrid g c = (c.col ≤ g.cols - 1) × (c.row ≤ g.rows - 1)
 
 -- a cell of the grid that is r away, and no more, is on ring r
-on_ring : (g : SpatialGrid) (q c : Cell) (r : ℕ) → InGrid g c → Closer (suc r) q c → Off r q c → T (on_border (square g q r) c)
+on_ring : (g : SpatialGrid) (q c : Cell) (r : ℕ) → WithinGrid g c → Closer (suc r) q c → Off r q c → T (on_border (square g q r) c)
 unfolding square
 on_ring g q c r i h o = is_border (square g q r) c inside (side o)
   where
@@ -71,7 +71,7 @@ on_ring g q c r i h o = is_border (square g q r) c inside (side o)
     side (inr (inr e)) = let k = h.above in inr (inr (inl (omega arith)))
 
 -- all cells of a grid are closer than its greater side
-all_closer : (g : SpatialGrid) (q c : Cell) (r : ℕ) → 1 ≤ g.cols → 1 ≤ g.rows → g.cols ≤ r → g.rows ≤ r → InGrid g q → InGrid g c → Closer r q c
+all_closer : (g : SpatialGrid) (q c : Cell) (r : ℕ) → 1 ≤ g.cols → 1 ≤ g.rows → g.cols ≤ r → g.rows ≤ r → WithinGrid g q → WithinGrid g c → Closer r q c
 all_closer g q c r hc hr kc kr iq ic = record { right = omega arith; left = omega arith; below = omega arith; above = omega arith }
 
 -- ---- what is found
@@ -84,7 +84,7 @@ NotMuchNearer c (Found i d) = NearlyAtMost d c.squared
 -- what is asked of a path point: far from q it is not much nearer than the bounds
 record Fit (g : SpatialGrid) (q : Cell) (c : PathPoint) : Type 0 where
   measured : Measured c
-  inside : InGrid g c.cell
+  inside : WithinGrid g c.cell
   far : (r : ℕ) → 2 ≤ r → Off r q c.cell → Clear (bound g r) c.squared
 
 settled_near : (b : Nearest) (c : PathPoint) → MeasuredBest b → Measured c → Settled c b → NotMuchNearer c b
@@ -99,17 +99,17 @@ left_near g q r (Found i d) c m f t o =
     let w = f.far r (leb→le 2 r h.0) o in
     ratio_near d c.squared m f.measured (lt_ratio d (bound g r) c.squared m w.fine h.1 w.ratio)
 
-module _ (g : SpatialGrid) (q : Cell) (cs : List PathPoint) (some_cols : 1 ≤ g.cols) (some-rows : 1 ≤ g.rows) (iq : InGrid g q)
+module _ (g : SpatialGrid) (q : Cell) (cs : List PathPoint) (some_cols : 1 ≤ g.cols) (some-rows : 1 ≤ g.rows) (iq : WithinGrid g q)
     (fit : All (Fit g q) cs) where
   all_measured : All Measured cs
   all_measured = all_give (Fit g q) Measured (λ c f. f.measured) cs fit
 
   -- before ring r: all that is closer is settled
-  record Before (r : ℕ) (b : Nearest) : Type 0 where
+  record SearchedTo (r : ℕ) (b : Nearest) : Type 0 where
     best : MeasuredBest b
     settled : All (λ c. Closer r q c.cell → Settled c b) cs
 
-  next : (r : ℕ) (b : Nearest) → Before r b → Before (suc r) (scan_ring g q cs r b)
+  next : (r : ℕ) (b : Nearest) → SearchedTo r b → SearchedTo (suc r) (scan_ring g q cs r b)
   next r b h =
       record {
         best = ring_keeps Measured MeasuredBest nearer_measured g q cs all_measured r b h.best;
@@ -125,7 +125,7 @@ module _ (g : SpatialGrid) (q : Cell) (cs : List PathPoint) (some_cols : 1 ≤ g
           (λ o. new (on_ring g q c.cell r f.inside k o)) (closer? r q c.cell)
 
   -- n more rings, which are all that there are
-  scan_near : (n r : ℕ) (b : Nearest) → g.cols ≤ n + r → g.rows ≤ n + r → Before r b → All (λ c. NotMuchNearer c (scan_from g q cs n r b)) cs
+  scan_near : (n r : ℕ) (b : Nearest) → g.cols ≤ n + r → g.rows ≤ n + r → SearchedTo r b → All (λ c. NotMuchNearer c (scan_from g q cs n r b)) cs
   unfolding scan_from
   scan_near zero r b kc kr h =
       all_give _ _
@@ -153,7 +153,7 @@ module _ (g : SpatialGrid) (q : Cell) (cs : List PathPoint) (some_cols : 1 ≤ g
 
 -- ---- the query over the points of a path, all of them the plate's; z is what stands beyond the end
 
-module _ (b : BoundingBox) (g : SpatialGrid) (G : Gridded b g) (ps : List Point) (q z : Point) (hq : OnAxes b q)
+module _ (b : BoundingBox) (g : SpatialGrid) (G : SoundGrid b g) (ps : List Point) (q z : Point) (hq : OnAxes b q)
     (hps : (i : ℕ) → i < length ps → OnAxes b (get_or ps i z)) where
   fits_all : All (Fit g (cell_of g q)) (seen_from g q 0 ps)
   fits_all =

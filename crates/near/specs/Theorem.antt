@@ -2,7 +2,7 @@
 -- their symbols, in crates/statement/specs/HowNear.antt. The first is of the path that the documents' rules give every accepted plate, the second of what a call
 -- has written: the whole path, or the beginning of one that outgrows C.
 --
--- The way to them. A coordinate's cell is the whole part of its difference from the origin times the reciprocal of the cell size (Placed): three roundings of
+-- The way to them. A coordinate's cell is the whole part of its difference from the origin times the reciprocal of the cell size (AlongAxis): three roundings of
 -- at most 2 ^ -53 each, so that two points whose cells are r columns or rows apart are r - 1 cell sizes apart along that axis but for a few 2 ^ 40ths; the
 -- bound of ring r and a squared distance are such roundings too (Products, RingBounds). So what a search that is left at ring r has not seen is at most
 -- 17 / 2 ^ 40 nearer than the bound, and so than what was found; what it has seen is not nearer at all (Search). A contour enters the path from the place that
@@ -18,23 +18,24 @@ use Rattle.std.proofs.Math.ListN.{length}
 use Rattle.rules.specs.Tools.{pick, sum}
 use Rattle.rules.specs.HandedOver.{IsF64, AllF64, Plate, at, Answer, gives, refuses, retrace_room}
 use Rattle.rules.specs.Box.{box}
-use Rattle.rules.specs.RetraceAndMarks.{vertex_of, retrace, coordinates, marks, kind_at}
-use Rattle.rules.specs.Calls.{totals, path_totals, vertices, retrace_call}
-use Rattle.statement.specs.PathStatement.{IsJumpOrTouch}
+use Rattle.rules.specs.Retrace.{vertex_of, retrace}
+use Rattle.rules.specs.Marks.{coordinates, marks, kind_at, vertices}
+use Rattle.rules.specs.Calls.{totals, path_totals, retrace_call}
+use Rattle.statement.specs.Division.{IsJumpOrTouch}
 use Rattle.statement.specs.HowNear.{LandingsNear, written_points, IsAccepted, HowNearByRules, HowNear}
 use Rattle.rules.specs.declared.Totals.{Totals}
-use Rattle.path.specs.Lists.{All, all-at, all-places}
-use Rattle.path.specs.Accepted.{Accepted, input_gives, OfPlate, point_on}
-use Rattle.path.specs.Start.{AllTakePart, layered_part}
-use Rattle.path.specs.Nearest.{grid_for}
-use Rattle.path.specs.Slices.{coordinates_length, marks_length, vertices_length, kind_at_lem, coordinates_at, vertices_at}
+use Rattle.plate_laws.specs.Lists.{All, all-at, all-places}
+use Rattle.plate_laws.specs.Accepted.{Accepted, input_gives, OfPlate, point_on}
+use Rattle.plate_laws.specs.Start.{AllTakePart, layered_part}
+use Rattle.plate_laws.specs.Nearest.{grid_for}
+use Rattle.plate_laws.specs.Slices.{coordinates_length, marks_length, vertices_length, kind_at_lem, point_is}
 use Rattle.path.specs.Theorem.{retrace_gives, retrace_full, slice_after, slice_begun}
-use Rattle.path.specs.Written.{at_take, kind_take}
-use Rattle.bounds.specs.Boxes.{box_sides, accepted_sound}
-use Rattle.bounds.specs.Gridded.{Gridded, gridded}
+use Rattle.path.specs.WrittenDivision.{at_take, kind_take}
+use Rattle.rounding_errors.specs.Boxes.{box_sides, accepted_sound}
+use Rattle.rounding_errors.specs.BoxGrid.{SoundGrid, gridded}
 use Rattle.near.specs.RingBounds.{OnAxes}
-use Rattle.near.specs.Boxed.{box_holds}
-use Rattle.near.specs.EitherWay.{distance_swap}
+use Rattle.near.specs.BoxBounds.{box_holds}
+use Rattle.length_laws.specs.EitherWay.{distance_swap}
 use Rattle.near.specs.Landings.{retrace_landed}
 
 -- ---- the path of the rules
@@ -62,7 +63,7 @@ module _ (p : Plate) (f64 : AllF64 p.points) (own : p.box ≡ box p.points) (acc
         y = record { f64 = f.1; on_plate = on.1; least = b.y };
       })
 
-  grid_of : 0 < sum p.lengths → Gridded p.box (grid_for p)
+  grid_of : 0 < sum p.lengths → SoundGrid p.box (grid_for p)
   grid_of h =
       rw own
       (gridded (box p.points) (box_sides IsF64 p.points (inf-fits binary64) all_f64) (accepted_sound p.points p.lengths accepted h))
@@ -71,12 +72,10 @@ module _ (p : Plate) (f64 : AllF64 p.points) (own : p.box ≡ box p.points) (acc
   unfolding LandingsNear
   landings_near part k l t i x =
       let r = retrace p in
-      let point : (j : ℕ) → j < length r → at (coordinates p.points (vertices r)) j ≡ at p.points (vertex_of r j) =
-      λ j y. coordinates_at p.points (vertices r) j (omega (arith, vertices_length r)) ∙ ap (at p.points) (vertices_at r j) in
       rw (
-        point (suc k) l,
-        point k (omega arith),
-        point i (omega arith),
+        point_is p.points r (suc k) l,
+        point_is p.points r k (omega arith),
+        point_is p.points r i (omega arith),
         distance_swap (at p.points (vertex_of r k)) (at p.points (vertex_of r (suc k))),
         distance_swap (at p.points (vertex_of r i)) (at p.points (vertex_of r (suc k))),
       )

@@ -13,19 +13,19 @@ use Rattle.rules.specs.declared.Point.{Point}
 use Rattle.rules.specs.declared.PathPlace.{PathPlace}
 use Rattle.rules.specs.declared.Nearest.{Nearest}
 use Rattle.rules.specs.declared.Nearest.TheVariants.{Found, Nothing}
-use Rattle.path.specs.FloatOrder.{Plus}
-use Rattle.path.specs.FiniteDistances.{OnPlate, distance_plus}
+use Rattle.plate_laws.specs.FloatOrder.{Plus}
+use Rattle.plate_laws.specs.FiniteDistances.{OnPlate, distance_plus}
 use Rattle.chains.specs.Hits.{Hit, miss, hit, beats, better}
 use Rattle.nearest.proofs.Rank.{rank, lt_rank, eq_rank, rank_one}
 
 -- a squared distance: finite, its sign plus, and an f64
-pub record Squared (x : Float) : Type 0 where
+pub record SquaredDistance (x : Float) : Type 0 where
   pub plus : Plus x
   pub holds : T (fits binary64 x)
 
 abbrev pub SquaredBest : Nearest → Type 0
 SquaredBest Nothing = Unit {0}
-SquaredBest (Found k d) = Squared d
+SquaredBest (Found k d) = SquaredDistance d
 
 unfoldable pub ranked : Nearest → Hit
 ranked Nothing = miss
@@ -47,18 +47,18 @@ fused_fits (fin s m e) nan = nan-fits binary64
 fused_fits (fin s m e) (inf u) = inf-fits binary64 u
 fused_fits (fin s m e) (fin u k c) = sum_fits _ _ _ _ _
 
-pub distance_squared_lem : (q p : Point) → OnPlate q.x × OnPlate q.y → OnPlate p.x × OnPlate p.y → Squared (distance_squared q p)
+pub distance_squared_lem : (q p : Point) → OnPlate q.x × OnPlate q.y → OnPlate p.x × OnPlate p.y → SquaredDistance (distance_squared q p)
 distance_squared_lem q p hq hp = record { plus = distance_plus q p hq.0 hq.1 hp.0 hp.1; holds = unfold distance_squared in fused_fits _ _ }
 
 -- ---- one more path point
 
-wins_beats : (c : PathPoint) (i : ℕ) (d : Float) → Squared c.squared → Squared d →
+wins_beats : (c : PathPoint) (i : ℕ) (d : Float) → SquaredDistance c.squared → SquaredDistance d →
     wins c i d ≡ beats c.place (rank binary64 c.squared) i (rank binary64 d)
 unfolding wins beats
 wins_beats c i d hc hd =
     rw (lt_rank binary64 c.squared d hc.plus hd.plus hc.holds hd.holds, eq_rank binary64 c.squared d hc.plus hd.plus hc.holds hd.holds)
 
-pub nearer_ranked : (b : Nearest) (c : PathPoint) → SquaredBest b → Squared c.squared →
+pub nearer_ranked : (b : Nearest) (c : PathPoint) → SquaredBest b → SquaredDistance c.squared →
     (ranked (nearer b c) ≡ better (ranked b) (hit c.place (rank binary64 c.squared))) × SquaredBest (nearer b c)
 unfolding nearer found pick ranked better
 nearer_ranked Nothing c hb hc = (refl, hc)

@@ -16,11 +16,11 @@ use Rattle.rules.specs.HandedOver.{at}
 use Rattle.rules.specs.GridAndNearest.{Cell, cell_of, Square, on_border}
 use Rattle.rules.specs.SamplesAndCache.{cell_number, cell_at}
 use Rattle.rules.specs.declared.SpatialGrid.{SpatialGrid}
-use Rattle.path.specs.Squares.{InSquare, OnSide, border_is, is_border}
+use Rattle.plate_laws.specs.Squares.{InSquare, OnSide, border_is, is_border}
 use Rattle.chains.specs.Best.{best_of, same_test, best_same}
 use Rattle.chains.specs.Cells.{is_in_cell, in_cell, in_cell_is}
 use Rattle.chains.specs.Sweeps.{level, level_is, is_level}
-use Rattle.grid.specs.Sane.{Sane}
+use Rattle.grid.specs.SaneGrid.{SaneGrid}
 use Rattle.grid.specs.Numbers.{cell_inside}
 use Rattle.rings.specs.Squares.{column_step}
 
@@ -78,19 +78,19 @@ module _ (s : Square) where
   step_most row = elim (edge_or_inner row) [ inl h ↦ omega (arith, h.1) | inr h ↦ omega (arith, h.2) ]
 
   -- where the code looks: at an end of the row, or anywhere in the first or the last row
-  abbrev pub Stands : ℕ → ℕ → Type 0
-  Stands row col = (col ≡ s.first_col) ⊎ (s.last_col ≤ col) ⊎ (row ≡ s.first_row) ⊎ (row ≡ s.last_row)
+  abbrev pub LooksAt : ℕ → ℕ → Type 0
+  LooksAt row col = (col ≡ s.first_col) ⊎ (s.last_col ≤ col) ⊎ (row ≡ s.first_row) ⊎ (row ≡ s.last_row)
 
-  pub stands_on_side : (row col : ℕ) → col ≤ s.last_col → Stands row col → OnSide s (record { col = col; row = row })
+  pub stands_on_side : (row col : ℕ) → col ≤ s.last_col → LooksAt row col → OnSide s (record { col = col; row = row })
   stands_on_side row col l (inl e) = inl e
   stands_on_side row col l (inr (inl h)) = inr (inl (omega arith))
   stands_on_side row col l (inr (inr h)) = inr (inr h)
 
-  pub stands_next : (row col : ℕ) → s.first_col ≤ col → Stands row (col + column_step s row)
+  pub stands_next : (row col : ℕ) → s.first_col ≤ col → LooksAt row (col + column_step s row)
   stands_next row col from =
       elim (edge_or_inner row) [ inl h ↦ inr (inr h.0) | inr h ↦ inr (inl (omega (arith, h.2))) ]
 
-module _ (g : SpatialGrid) (sane : Sane g) (path : List Float) (s : Square) where
+module _ (g : SpatialGrid) (sane : SaneGrid g) (path : List Float) (s : Square) where
   -- ---- a ring's places lie in the square's rows, and a row's in its columns
 
   pub ring_rows : (k : ℕ) → T (on_ring g path s k) → (s.first_row ≤ row_at g path k) × (row_at g path k ≤ s.last_row)
@@ -129,10 +129,10 @@ module _ (g : SpatialGrid) (sane : Sane g) (path : List Float) (s : Square) wher
           (is_level (on_ring g path s) (row_at g path) c.row k (rw (e.0, e.1) (is_border s c inside side)) e.1) e.0
 
   -- no border place of the row is passed over
-  pub step_gap : (row col : ℕ) → s.first_col ≤ col → Stands s row col → (k : ℕ) → T (on_row g path s row k) → col < col_at g path k → col + column_step s row ≤ col_at g path k
+  pub step_gap : (row col : ℕ) → s.first_col ≤ col → LooksAt s row col → (k : ℕ) → T (on_row g path s row k) → col < col_at g path k → col + column_step s row ≤ col_at g path k
   step_gap row col from st k t l = elim (edge_or_inner s row) [ inl h ↦ omega (arith, h.1) | inr h ↦ inner h st (row_is row k t).2 ]
     where
-      inner : Inner s row → Stands s row col → OnSide s (record { col = col_at g path k; row = row }) → col + column_step s row ≤ col_at g path k
+      inner : Inner s row → LooksAt s row col → OnSide s (record { col = col_at g path k; row = row }) → col + column_step s row ≤ col_at g path k
       inner h st (inl e) = absurd (omega arith)
       inner h (inl f) (inr (inl e)) = omega (arith, h.2)
       inner h (inr (inl f)) (inr (inl e)) = absurd (omega arith)

@@ -1,6 +1,6 @@
 pub mod Rank
 pub mod Answers
-pub mod Winning
+pub mod NearerPoint
 pub mod Border
 pub mod Rings
 pub mod Loops

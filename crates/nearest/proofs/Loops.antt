@@ -13,20 +13,20 @@ use Rattle.rules.specs.declared.Point.{Point}
 use Rattle.rules.specs.declared.SpatialGrid.{SpatialGrid}
 use Rattle.rules.specs.declared.Nearest.{Nearest}
 use Rattle.rules.specs.declared.Nearest.TheVariants.{Nothing}
-use Rattle.path.specs.FiniteDistances.{OnPlate}
-use Rattle.path.specs.Nearest.{seen}
-use Rattle.path.specs.Squares.{InSquare}
+use Rattle.plate_laws.specs.FiniteDistances.{OnPlate}
+use Rattle.plate_laws.specs.Nearest.{seen}
+use Rattle.plate_laws.specs.Squares.{InSquare}
 use Rattle.chains.specs.Hits.{Hit, better}
 use Rattle.chains.specs.Best.{best_of}
 use Rattle.chains.specs.Cells.{is_in_cell}
-use Rattle.chains.specs.Walks.{Walking, walk_start, walk_falls, walk_next, walk_done}
+use Rattle.chains.specs.Walks.{ChainWalk, walk_start, walk_falls, walk_next, walk_done}
 use Rattle.chains.specs.Sweeps.{Sweeping, sweep_start, sweep_turn, sweep_done}
-use Rattle.grid.specs.Sane.{Sane}
+use Rattle.grid.specs.SaneGrid.{SaneGrid}
 use Rattle.grid.specs.Numbers.{number_below}
 use Rattle.history.specs.History.{points, head_in, link_in, Ready}
 use Rattle.rings.specs.Squares.{column_step}
 use Rattle.nearest.proofs.Answers.{SquaredBest, ranked, nearer_ranked}
-use Rattle.nearest.proofs.Border.{col_at, row_at, on_ring, on_row, ring_rows, row_cols, row_cell, step_pos, Stands, stands_on_side, stands_next, step_gap}
+use Rattle.nearest.proofs.Border.{col_at, row_at, on_ring, on_row, ring_rows, row_cols, row_cell, step_pos, LooksAt, stands_on_side, stands_next, step_gap}
 use Rattle.nearest.proofs.Rings.{key_at, place_squared, ring_is, rings_turn, rings_stop, rings_done}
 
 -- ---- what holds; `before` is the answer with which the loop was begun
@@ -42,13 +42,13 @@ module _ (g : SpatialGrid) (path : List Float) (count : ℕ) (q : Point) where
 
   pub record InCell (c : Cell) (before best : Nearest) (cursor : ℕ) : Type 0 where
     pub squared : SquaredBest best
-    pub walking : Walking (of_cell c) (key_at path q) count (with_best (of_cell c) before) (ranked best) cursor
+    pub walking : ChainWalk (of_cell c) (key_at path q) count (with_best (of_cell c) before) (ranked best) cursor
 
   -- before a column, in a row of the square s
   pub record InRow (s : Square) (row : ℕ) (before best : Nearest) (col : ℕ) : Type 0 where
     pub squared : SquaredBest best
     pub first : s.first_col ≤ col
-    pub stands : Stands s row col
+    pub stands : LooksAt s row col
     pub sweeping : Sweeping (on_row g path s row) (col_at g path) (key_at path q) count (with_best (on_row g path s row) before) (ranked best) col
 
   -- before a row of the square s
@@ -70,7 +70,7 @@ same_square g a b ring e f = rw (e, f)
 
 -- what a query asks for
 abbrev Asked : SpatialGrid → List Float → List ℕ → ℕ → Point → Type 0
-Asked g path work count q = Ready g path work count × Sane g × (OnPlate q.x × OnPlate q.y)
+Asked g path work count q = Ready g path work count × SaneGrid g × (OnPlate q.x × OnPlate q.y)
 
 module _ {g : SpatialGrid} {path : List Float} {work : List ℕ} {count : ℕ} (q : Point) (asked : Asked g path work count q) where
   -- the chain of a cell of the grid
@@ -120,10 +120,10 @@ module _ {g : SpatialGrid} {path : List Float} {work : List ℕ} {count : ℕ} (
         }
 
     -- the chain of the cell is done
-    pub row_next : (row : ℕ) (before best r : Nearest) (col cursor : ℕ) → InRow g path count q s row before best col →
+    pub row_next : {row : ℕ} {before best r : Nearest} {col cursor : ℕ} → InRow g path count q s row before best col →
         InCell g path count q (record { col = col; row = row }) best r cursor → cursor ≡ 0 →
         InSquare s (record { col = col; row = row }) → col < g.cols → InRow g path count q s row before r (col + column_step s row)
-    row_next row before best r col cursor i c z inside hc =
+    row_next {row = row} {best = best} {r = r} {col = col} {cursor = cursor} i c z inside hc =
         let cell : Cell = record { col = col; row = row } in
         record {
           squared = c.squared;
@@ -147,9 +147,9 @@ module _ {g : SpatialGrid} {path : List Float} {work : List ℕ} {count : ℕ} (
         }
 
     -- the columns of the row are done
-    pub ring_next : (before best r : Nearest) (row col : ℕ) → InRing g path count q s before best row →
+    pub ring_next : {before best r : Nearest} {row col : ℕ} → InRing g path count q s before best row →
         InRow g path count q s row best r col → s.last_col < col → InRing g path count q s before r (row + 1)
-    ring_next before best r row col i w h =
+    ring_next {best = best} {r = r} {row = row} {col = col} i w h =
         record {
           squared = w.squared;
           first = omega (arith, i.first);

@@ -13,7 +13,7 @@ use lib.Pow.{pow_pos, pow-lt, pow-add}
 use lib.Ieee.{Float, nan, inf, fin, Format, low, prec, emax, hid, size, up, down, fits, lt, eq, to_bits, of_bits}
 use lib.Ieee.Bits.{of_bits-to_bits}
 use lib.Ieee.Fits.{up_pos, down_pos, and_l, and_r}
-use Rattle.path.specs.FloatOrder.{Plus}
+use Rattle.plate_laws.specs.FloatOrder.{Plus}
 
 unfoldable pub rank : Format → Float → ℕ
 rank f nan = 0

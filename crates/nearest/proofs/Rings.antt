@@ -16,15 +16,15 @@ use Rattle.rules.specs.GridAndNearest.{Cell, Square, square, on_border, PathPoin
 use Rattle.rules.specs.declared.Point.{Point}
 use Rattle.rules.specs.declared.SpatialGrid.{SpatialGrid}
 use Rattle.rules.specs.declared.Nearest.{Nearest}
-use Rattle.path.specs.FiniteDistances.{OnPlate}
-use Rattle.path.specs.Nearest.{seen}
-use Rattle.path.specs.Rings.{scan_next}
+use Rattle.plate_laws.specs.FiniteDistances.{OnPlate}
+use Rattle.plate_laws.specs.Nearest.{seen}
+use Rattle.plate_laws.specs.Rings.{scan_next}
 use Rattle.chains.specs.Hits.{miss, hit, better, better_miss}
 use Rattle.chains.specs.Best.{best_of, same_test, best_in, best_out, best_none}
 use Rattle.chains.specs.Sweeps.{level, upward, level_is, is_level, sweep_start, sweep_turn, sweep_done}
 use Rattle.history.specs.History.{points, Ready}
 use Rattle.nearest.proofs.Rank.{rank}
-use Rattle.nearest.proofs.Answers.{Squared, SquaredBest, ranked, distance_squared_lem, nearer_ranked, ranked_one}
+use Rattle.nearest.proofs.Answers.{SquaredDistance, SquaredBest, ranked, distance_squared_lem, nearer_ranked, ranked_one}
 use Rattle.nearest.proofs.Border.{on_ring}
 
 -- a path place's key: its squared distance from q, counted
@@ -32,7 +32,7 @@ unfoldable pub key_at : List Float → Point → ℕ → ℕ
 key_at path q k = rank binary64 (distance_squared q (at path k))
 
 pub place_squared : (g : SpatialGrid) (path : List Float) (work : List ℕ) (count : ℕ) (q : Point) → Ready g path work count →
-    OnPlate q.x × OnPlate q.y → (k : ℕ) → k < count → Squared (distance_squared q (at path k))
+    OnPlate q.x × OnPlate q.y → (k : ℕ) → k < count → SquaredDistance (distance_squared q (at path k))
 unfolding at
 place_squared g path work count q r hq k l = distance_squared_lem q _ hq (r.coords (2 * k) (omega arith), r.coords (2 * k + 1) (omega arith))
 
@@ -63,7 +63,7 @@ single P key i (suc n) h = go (ℕ_discrete n i) (λ l. single P key i n l)
 
 -- ---- one ring
 
-module _ (g : SpatialGrid) (path : List Float) (q : Point) (count : ℕ) (squared : (k : ℕ) → k < count → Squared (distance_squared q (at path k)))
+module _ (g : SpatialGrid) (path : List Float) (q : Point) (count : ℕ) (squared : (k : ℕ) → k < count → SquaredDistance (distance_squared q (at path k)))
     (s : Square) where
   -- the fold of a ring, at one path point
   abbrev visit : Nearest → PathPoint → Nearest
@@ -93,7 +93,7 @@ module _ (g : SpatialGrid) (path : List Float) (q : Point) (count : ℕ) (square
       (r.0 ∙ sweep_turn (on_ring g path s) (λ k. k) (key_at path q) count _ (ranked b) _ i (suc i) refl w.0 (omega arith) (λ k l t m. omega arith), r.1)
 
 -- what the code has found of a ring is what the definition makes of it
-pub ring_is : (g : SpatialGrid) (path : List Float) (q : Point) (count : ℕ) → ((k : ℕ) → k < count → Squared (distance_squared q (at path k))) →
+pub ring_is : (g : SpatialGrid) (path : List Float) (q : Point) (count : ℕ) → ((k : ℕ) → k < count → SquaredDistance (distance_squared q (at path k))) →
     (c : Cell) (r : ℕ) (b best : Nearest) → SquaredBest b → SquaredBest best →
     ranked best ≡ better (ranked b) (best_of (on_ring g path (square g c r)) (key_at path q) count) →
     scan_ring g c (seen_from g q 0 (points path count)) r b ≡ best

@@ -17,21 +17,21 @@ use Rattle.rules.specs.Start as definitions
 use Rattle.rules.specs.Start.{oriented, layer_of}
 use Rattle.rules.specs.OrderAndStraight.{nearer_sense, nearer_end}
 use Rattle.rules.specs.declared.Point.{Point}
-use Rattle.path.specs.Layers.{leads_in, taking_low, taking_high}
-use Rattle.path.proofs.Layers.{beats_lower, beats_higher, beats_alike}
-use Rattle.path.specs.Ordering.{nearer_contour}
+use Rattle.plate_laws.specs.Layers.{leads_in, taking_low, taking_high}
+use Rattle.plate_laws.proofs.Layers.{beats_lower, beats_higher, beats_alike}
+use Rattle.plate_laws.specs.Ordering.{nearer_contour}
 use Rattle.point.specs.Bound.{above_not_below}
-use Rattle.start.specs.Oriented.{oriented_of}
-use Rattle.start.specs.declared.Oriented.{Oriented}
-use Rattle.optimize.specs.Choice.{lowest_of, Stands}
+use Rattle.start.specs.OrientedContours.{oriented_of}
+use Rattle.start.specs.declared.OrientedContour.{OrientedContour}
+use Rattle.optimize.specs.Choice.{lowest_of, ChoiceStands}
 use Rattle.optimize.specs.declared.nearest.Choice.{Choice}
 
-pub later : (words : List ℕ) (n : ℕ) (b : prelude.Option Choice) → Stands words n b → Stands words (n + 1) b
-unfolding Stands
+pub later : (words : List ℕ) (n : ℕ) (b : prelude.Option Choice) → ChoiceStands words n b → ChoiceStands words (n + 1) b
+unfolding ChoiceStands
 later words n (Some c) h = let a = h.0 in (omega arith, h.1)
 later words n None h = tt
 
-module _ (p : Plate) (q : Point) (c : Contour) (f r : Oriented) (ef : oriented_of f ≡ oriented p q false c) (er : oriented_of r ≡ oriented p q true c) where
+module _ (p : Plate) (q : Point) (c : Contour) (f r : OrientedContour) (ef : oriented_of f ≡ oriented p q false c) (er : oriented_of r ≡ oriented p q true c) where
   nearer_by : nearer_sense p q c ≡ pick (le f.squared r.squared) (oriented_of f) (oriented_of r)
   unfolding nearer_sense oriented_of
   nearer_by = rw (← ef, ← er)
@@ -58,11 +58,11 @@ both_farther p q c best f r = go (le (distance_squared q (vertex_at p c 0)) (dis
     go false = rw (above_not_below best.squared (distance_squared q (vertex_at p c c.last)) r)
 
 -- the same of the two points that the code looks at
-pub passed_over : (p : Plate) (xs : List Float) (q a b : Point) (number first last : ℕ) (best : definitions.Oriented) → p.points ≡ xs →
+pub passed_over : (p : Plate) {xs : List Float} (q : Point) {a b : Point} (number first last : ℕ) {best : definitions.Oriented} → p.points ≡ xs →
     a ≡ at xs first → b ≡ at xs (first + last) → lt best.squared (distance_squared q a) ≡ true → lt best.squared (distance_squared q b) ≡ true →
     leads nearer_end (some best) (nearer_sense p q (record { number = number; first = first; last = last })) ≡ some best
 unfolding vertex_at
-passed_over p xs q a b number first last best e x y f g =
+passed_over p q {a = a} number first last {best = best} e x y f g =
     both_farther p q (record { number = number; first = first; last = last }) best (rw (e, add-zero first, ← x) f) (rw (e, ← y) g)
 
 -- ---- layers

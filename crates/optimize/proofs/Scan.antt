@@ -13,26 +13,26 @@ use Rattle.rules.specs.HandedOver.{Plate, Contour}
 use Rattle.rules.specs.Start.{Oriented, layer_of}
 use Rattle.rules.specs.OrderAndStraight.{nearer_sense, nearer_end}
 use Rattle.rules.specs.declared.Point.{Point}
-use Rattle.path.specs.Lists.{All, all-at}
-use Rattle.path.specs.Layers.{leads_in}
-use Rattle.start.specs.Oriented.{contour_of}
-use Rattle.start.specs.declared.Contour as code
-use Rattle.packed_contours.specs.Packed.{packed, number_in, first_in, Placed}
+use Rattle.plate_laws.specs.Lists.{All, all-at}
+use Rattle.plate_laws.specs.Layers.{leads_in}
+use Rattle.contours.specs.ContourOf.{contour_of}
+use Rattle.contours.specs.declared.ContourRange as code
+use Rattle.packed_contours.specs.PackedNumbers.{packed, number_in, first_in, InLengths}
 
 -- what stands where no contour does
 abbrev pub blank : Contour
 blank = record { number = 0; first = 0; last = 0 }
 
-pub number_is : (ns : List ℕ) (c : Contour) → Placed ns c → number_in (packed c) ≡ c.number
+number_is : {ns : List ℕ} {c : Contour} → InLengths ns c → number_in (packed c) ≡ c.number
 unfolding packed
-number_is ns c h = let a = h.few in let b = h.small in omega arith
+number_is h = let a = h.few in let b = h.small in omega arith
 
-pub first_is : (ns : List ℕ) (c : Contour) → Placed ns c → first_in (packed c) ≡ c.first
+first_is : {ns : List ℕ} {c : Contour} → InLengths ns c → first_in (packed c) ≡ c.first
 unfolding packed
-first_is ns c h = let a = h.few in let b = h.small in omega arith
+first_is h = let a = h.few in let b = h.small in omega arith
 
 -- the word at place i of the waiting contours
-module _ (ns words : List ℕ) (cs : List Contour) (e : words ≡ map packed cs) (a : All (Placed ns) cs) (i : ℕ) (h : i < length words) where
+module _ (ns : List ℕ) {words : List ℕ} (cs : List Contour) (e : words ≡ map packed cs) (a : All (InLengths ns) cs) {i : ℕ} (h : i < length words) where
   abbrev here : Contour
   here = get_or cs i blank
 
@@ -42,19 +42,19 @@ module _ (ns words : List ℕ) (cs : List Contour) (e : words ≡ map packed cs)
   pub word_is : get_or words i 0 ≡ packed here
   word_is = ap (λ (ws : List ℕ). get_or ws i 0) e ∙ get_or-map packed cs i blank 0 word_in
 
-  pub word_placed : Placed ns here
-  word_placed = all-at (Placed ns) blank cs a i word_in
+  pub word_placed : InLengths ns here
+  word_placed = all-at (InLengths ns) blank cs a i word_in
 
   pub word_number : number_in (get_or words i 0) ≡ here.number
-  word_number = ap number_in word_is ∙ number_is ns here word_placed
+  word_number = ap number_in word_is ∙ number_is word_placed
 
   pub word_first : first_in (get_or words i 0) ≡ here.first
-  word_first = ap first_in word_is ∙ first_is ns here word_placed
+  word_first = ap first_in word_is ∙ first_is word_placed
 
   pub word_length : get_or ns (number_in (get_or words i 0)) 0 ≡ here.last + 1
   word_length = ap (λ (k : ℕ). get_or ns k 0) word_number ∙ word_placed.long
 
-  pub word_contour : (r : code.Contour) → r.number ≡ number_in (get_or words i 0) → r.first.0 ≡ first_in (get_or words i 0) →
+  pub word_contour : (r : code.ContourRange) → r.number ≡ number_in (get_or words i 0) → r.first.0 ≡ first_in (get_or words i 0) →
       r.last + 1 ≡ get_or ns (number_in (get_or words i 0)) 0 → contour_of r ≡ here
   unfolding contour_of
   word_contour r x y z =

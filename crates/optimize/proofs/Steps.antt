@@ -1,28 +1,26 @@
 -- One contour more in order: the work slice and the definitions' order go together. Assumes nothing.
-use mathlib.Core.Path.{◌≡◌, refl, sym, ap, ap₂, ◌∙◌, subst}
-use mathlib.Core.Bool.{Bool, true, false}
+use mathlib.Core.Path.{◌≡◌, refl, sym, ap, ap₂, ◌∙◌}
 use mathlib.Core.List.{List, [], ◌∷◌, ◌++◌, map, append_assoc, append-nil}
 use mathlib.Core.Option.{none, some}
 use Prim.Native.Nat.{ℕ, zero, suc, ◌+◌, ◌-◌, ◌<◌, ◌≤◌}
 use native.Mathlib.Omega.{arith}
 use native.Mathlib.Decide.{dec_lt}
 use mathlib.Core.Logic.{inl, inr}
-use lib.Ieee.{le}
 use lib.ListN.{length, get_or, take, drop, length-map, length-append, length-take, length-drop}
 use Rattle.std.proofs.lemmas.List.{take-map, drop-map, map-append, get_or-map}
 use lib.Seq.{take_at, drop_at, take-append-le, drop-append-le, drop-drop}
-use Rattle.rules.specs.Tools.{pick, foremost}
+use Rattle.rules.specs.Tools.{foremost}
 use Rattle.rules.specs.HandedOver.{Plate, Contour, contours}
-use Rattle.rules.specs.Start.{Oriented, oriented, layer_of, start}
+use Rattle.rules.specs.Start.{Oriented, layer_of, start}
 use Rattle.rules.specs.OrderAndStraight.{last_end, nearer_sense, nearer_end, contour_number, order_after, order_from, order_of, order}
-use Rattle.statement.specs.PathStatement.{Among}
+use Rattle.rules.specs.Contours.{Among}
 use Rattle.rules.specs.declared.Point.{Point}
-use Rattle.path.specs.Lists.{All, all-at, all_map, all_give, all_without}
-use Rattle.path.specs.Layers.{foremost_has}
-use Rattle.path.specs.Start.{start_is}
-use Rattle.path.specs.Contours.{all_among, Rising, others, others_at, rising_without, contours_rise}
-use Rattle.path.specs.Accepted.{Accepted}
-use Rattle.packed_contours.specs.Packed.{packed, packed_sense, Placed}
+use Rattle.plate_laws.specs.Lists.{All, all-at, all_without}
+use Rattle.plate_laws.specs.Layers.{foremost_has}
+use Rattle.plate_laws.specs.Contours.{Rising, others, others_at, rising_without, contours_rise}
+use Rattle.plate_laws.specs.Accepted.{Accepted}
+use Rattle.plate_laws.specs.Ordering.{all_nearer, after_next}
+use Rattle.packed_contours.specs.PackedNumbers.{packed, packed_sense, InLengths}
 use Rattle.packed_contours.specs.Contours.{all_placed}
 use Rattle.optimize.specs.State.{State, Whole}
 use Rattle.optimize.proofs.Scan.{blank}
@@ -32,9 +30,9 @@ use Rattle.optimize.proofs.Scan.{blank}
 contour_same : (a b : Contour) → a.number ≡ b.number → a.first ≡ b.first → a.last ≡ b.last → a ≡ b
 contour_same a b x y z = let r : a ≡ record { number = b.number; first = b.first; last = b.last } = rw (← x, ← y, ← z) refl in r
 
-pub packed_same : (ns : List ℕ) (a b : Contour) → Placed ns a → Placed ns b → packed a ≡ packed b → a ≡ b
+packed_same : {ns : List ℕ} {a b : Contour} → InLengths ns a → InLengths ns b → packed a ≡ packed b → a ≡ b
 unfolding packed
-packed_same ns a b h k e =
+packed_same {ns = ns} {a = a} {b = b} h k e =
     let p = h.small in
     let q = k.small in
     let x : a.number ≡ b.number = omega arith in
@@ -44,7 +42,7 @@ packed_same ns a b h k e =
 
 -- ---- the number at place k of the second part is put behind the first
 
-pub taken : (us bs ds : List ℕ) (s k word : ℕ) → length us ≡ s → k < length bs →
+taken : (us bs ds : List ℕ) (s k word : ℕ) → length us ≡ s → k < length bs →
     take s (us ++ (bs ++ ds)) ++ (word ∷ (take (s + k - s) (drop s (us ++ (bs ++ ds))) ++ drop (s + k + 1) (us ++ (bs ++ ds))))
     ≡ (us ++ (word ∷ [])) ++ ((take k bs ++ drop (suc k) bs) ++ ds)
 taken us bs ds s k word e h =
@@ -63,33 +61,23 @@ taken us bs ds s k word e h =
 -- ---- maps of parts
 
 -- those that are left when the one at place k is taken out
-left_words : (cs : List Contour) (k : ℕ) (c : Contour) → Rising cs → k < length cs → get_or cs k blank ≡ c →
+left_words : (cs : List Contour) {k : ℕ} {c : Contour} → Rising cs → k < length cs → get_or cs k blank ≡ c →
     take k (map packed cs) ++ drop (suc k) (map packed cs) ≡ map packed (others c cs)
-left_words cs k c r h e =
+left_words cs {k = k} r h e =
     ap₂ (λ (u v : List ℕ). u ++ v) (take-map packed k cs) (drop-map packed (suc k) cs)
     ∙ sym (map-append packed (take k cs) (drop (suc k) cs))
     ∙ ap (map packed) (sym (others_at blank cs k r h) ∙ ap (λ (d : Contour). others d cs) e)
 
-left_length : (cs : List Contour) (k : ℕ) (c : Contour) → Rising cs → k < length cs → get_or cs k blank ≡ c → length (others c cs) + 1 ≡ length cs
-left_length cs k c r h e =
+left_length : (cs : List Contour) {k : ℕ} {c : Contour} → Rising cs → k < length cs → get_or cs k blank ≡ c → length (others c cs) + 1 ≡ length cs
+left_length cs {k = k} r h e =
     ap (λ (ds : List Contour). length ds + 1) (ap (λ (d : Contour). others d cs) (sym e) ∙ others_at blank cs k r h) ∙ simp (length-append, length-take, length-drop) (omega arith)
 
 -- ---- the definitions' order
 
-sense_contour : (p : Plate) (q : Point) (c : Contour) → (nearer_sense p q c).contour ≡ c
-unfolding nearer_sense oriented pick
-sense_contour p q c = go (le (oriented p q false c).squared (oriented p q true c).squared)
-  where
-    go : (b : Bool) → (pick b (oriented p q false c) (oriented p q true c)).contour ≡ c
-    go true = refl
-    go false = refl
-
-pub winner_placed : (p : Plate) (ns : List ℕ) (q : Point) (cs : List Contour) (t : Oriented) → All (Placed ns) cs →
-    foremost (layer_of p) nearer_end (map (nearer_sense p q) cs) ≡ some t → Placed ns t.contour
-winner_placed p ns q cs t a e =
-    foremost_has (layer_of p) nearer_end (λ (s : Oriented). Placed ns s.contour) (map (nearer_sense p q) cs)
-    (all_map (λ (s : Oriented). Placed ns s.contour) (nearer_sense p q) cs
-    (all_give _ _ (λ c h. subst (Placed ns) (sym (sense_contour p q c)) h) cs a)) t e
+pub winner_placed : (p : Plate) {ns : List ℕ} (q : Point) (cs : List Contour) {t : Oriented} → All (InLengths ns) cs →
+    foremost (layer_of p) nearer_end (map (nearer_sense p q) cs) ≡ some t → InLengths ns t.contour
+winner_placed p {ns = ns} q cs {t = t} a e =
+    foremost_has (layer_of p) nearer_end (λ (s : Oriented). InLengths ns s.contour) (map (nearer_sense p q) cs) (all_nearer (InLengths ns) p q cs a) t e
 
 -- where none wins, the order ends
 order_ends : (p : Plate) (m : ℕ) (cs : List Contour) (s : Oriented) → foremost (layer_of p) nearer_end (map (nearer_sense p (last_end p s)) cs) ≡ none → order_after p m cs s ≡ []
@@ -101,14 +89,9 @@ order_done : (p : Plate) (cs : List Contour) (s : Oriented) → order_after p 0 
 unfolding order_after
 order_done p cs s = refl
 
-order_next : (p : Plate) (m : ℕ) (cs : List Contour) (s t : Oriented) → foremost (layer_of p) nearer_end (map (nearer_sense p (last_end p s)) cs) ≡ some t →
-    order_after p (suc m) cs s ≡ t ∷ order_after p m (others t.contour cs) t
-unfolding order_after
-order_next p m cs s t e = rw (e, order_after)
-
 -- ---- the next contour
 
-module _ (p : Plate) (words : List ℕ) (n done : ℕ) (last : Oriented) (st : State p words n done last) where
+module _ {p : Plate} {words : List ℕ} {n done : ℕ} {last : Oriented} (st : State p words n done last) where
   pub waiting_words : take (n - done) (drop done words) ≡ map packed st.left
   waiting_words =
       let k : n - done ≡ length (map packed st.left) = omega (arith, st.total, length-map st.left packed) in
@@ -116,16 +99,16 @@ module _ (p : Plate) (words : List ℕ) (n done : ℕ) (last : Oriented) (st : S
       (ap (drop done) st.parts ∙ drop_at (map packed_sense st.ordered) (map packed st.left ++ st.tail) done (length-map st.ordered packed_sense ∙ sym st.count))
       ∙ take_at (map packed st.left) st.tail (length (map packed st.left)) refl
 
-  pub next_state : (i : ℕ) (t : Oriented) (after : List ℕ) → i < length st.left → get_or (map packed st.left) i 0 ≡ packed t.contour →
+  pub next_state : {i : ℕ} {t : Oriented} {after : List ℕ} → i < length st.left → get_or (map packed st.left) i 0 ≡ packed t.contour →
       foremost (layer_of p) nearer_end (map (nearer_sense p (last_end p last)) st.left) ≡ some t →
       after ≡ take done words ++ (packed_sense t ∷ (take (done + i - done) (drop done words) ++ drop (done + i + 1) words)) →
       State p after n (done + 1) t
-  next_state i t after h e w f =
+  next_state {i = i} {t = t} h e w f =
       let cs = st.left in
-      let k = winner_placed p p.lengths (last_end p last) cs t st.placed w in
+      let k = winner_placed p (last_end p last) cs st.placed w in
       let c : get_or cs i blank ≡ t.contour =
-      packed_same p.lengths (get_or cs i blank) t.contour (all-at (Placed p.lengths) blank cs st.placed i h) k (sym (get_or-map packed cs i blank 0 h) ∙ e) in
-      let l = left_length cs i t.contour st.rising h c in
+      packed_same (all-at (InLengths p.lengths) blank cs st.placed i h) k (sym (get_or-map packed cs i blank 0 h) ∙ e) in
+      let l = left_length cs st.rising h c in
       let m : length cs ≡ suc (length (others t.contour cs)) = omega arith in
       record {
         ordered = st.ordered ++ (t ∷ []);
@@ -137,14 +120,14 @@ module _ (p : Plate) (words : List ℕ) (n done : ℕ) (last : Oriented) (st : S
             f
             ∙ ap (λ (ws : List ℕ). take done ws ++ (packed_sense t ∷ (take (done + i - done) (drop done ws) ++ drop (done + i + 1) ws))) st.parts
             ∙ taken (map packed_sense st.ordered) (map packed cs) st.tail done i (packed_sense t) (length-map st.ordered packed_sense ∙ sym st.count) (omega (arith, length-map cs packed))
-            ∙ ap₂ (λ (u v : List ℕ). u ++ (v ++ st.tail)) (sym (map-append packed_sense st.ordered (t ∷ []))) (left_words cs i t.contour st.rising h c);
+            ∙ ap₂ (λ (u v : List ℕ). u ++ (v ++ st.tail)) (sym (map-append packed_sense st.ordered (t ∷ []))) (left_words cs st.rising h c);
         result =
             st.result
             ∙ ap (λ (j : ℕ). st.ordered ++ order_after p j cs last) m
-            ∙ ap (λ (ss : List Oriented). st.ordered ++ ss) (order_next p (length (others t.contour cs)) cs last t w)
+            ∙ ap (λ (ss : List Oriented). st.ordered ++ ss) (after_next p (length (others t.contour cs)) cs last t w)
             ∙ sym (append_assoc st.ordered (t ∷ []) (order_after p (length (others t.contour cs)) (others t.contour cs) t));
         rising = rising_without t.contour.number cs st.rising;
-        placed = all_without (Placed p.lengths) contour_number t.contour.number cs st.placed;
+        placed = all_without (InLengths p.lengths) contour_number t.contour.number cs st.placed;
         at = k;
       }
 
@@ -165,24 +148,18 @@ before_end c cs r m f =
     go {j} (yes h) l e = absurd (f j h e)
     go {j} (no h) l e = omega arith
 
-pub start_placed : (p : Plate) (s : Oriented) → Accepted p.points p.lengths → start p ≡ some s → Placed p.lengths s.contour
-start_placed p s a e = all_among (Placed p.lengths) (contours p) (all_placed p a) s.contour (start_is p s e)
-
-pub start_among : (p : Plate) (s : Oriented) → start p ≡ some s → Among s.contour (contours p)
-start_among p s e = start_is p s e
-
-pub first_state : (p : Plate) (words tail : List ℕ) (n k : ℕ) (s : Oriented) (after : List ℕ) → Accepted p.points p.lengths →
-    words ≡ map packed (contours p) ++ tail → n ≡ length (contours p) → start p ≡ some s → Placed p.lengths s.contour →
+pub first_state : {p : Plate} {words : List ℕ} (tail : List ℕ) {n k : ℕ} {s : Oriented} {after : List ℕ} → Accepted p.points p.lengths →
+    words ≡ map packed (contours p) ++ tail → n ≡ length (contours p) → start p ≡ some s → InLengths p.lengths s.contour →
     k < length (contours p) → get_or (map packed (contours p)) k 0 ≡ packed s.contour →
     after ≡ take 0 words ++ (packed_sense s ∷ (take (k - 0) (drop 0 words) ++ drop (k + 1) words)) →
     State p after n 1 s
 unfolding order order_of order_from
-first_state p words tail n k s after a e m b q h g f =
+first_state {p = p} {words = words} tail {k = k} {s = s} a e m b q h g f =
     let cs = contours p in
     let r = contours_rise p in
     let c : get_or cs k blank ≡ s.contour =
-    packed_same p.lengths (get_or cs k blank) s.contour (all-at (Placed p.lengths) blank cs (all_placed p a) k h) q (sym (get_or-map packed cs k blank 0 h) ∙ g) in
-    let l = left_length cs k s.contour r h c in
+    packed_same (all-at (InLengths p.lengths) blank cs (all_placed p a) k h) q (sym (get_or-map packed cs k blank 0 h) ∙ g) in
+    let l = left_length cs r h c in
     let i : k - 0 ≡ 0 + k - 0 = omega arith in
     let j : k + 1 ≡ 0 + k + 1 = omega arith in
     record {
@@ -196,16 +173,16 @@ first_state p words tail n k s after a e m b q h g f =
           ∙ ap₂ (λ (x y : ℕ). take 0 words ++ (packed_sense s ∷ (take x (drop 0 words) ++ drop y words))) i j
           ∙ ap (λ (ws : List ℕ). take 0 ws ++ (packed_sense s ∷ (take (0 + k - 0) (drop 0 ws) ++ drop (0 + k + 1) ws))) e
           ∙ taken [] (map packed cs) tail 0 k (packed_sense s) refl (omega (arith, length-map cs packed))
-          ∙ ap (λ (v : List ℕ). (packed_sense s ∷ []) ++ (v ++ tail)) (left_words cs k s.contour r h c);
+          ∙ ap (λ (v : List ℕ). (packed_sense s ∷ []) ++ (v ++ tail)) (left_words cs r h c);
       result = rw (b) refl;
       rising = rising_without s.contour.number cs r;
-      placed = all_without (Placed p.lengths) contour_number s.contour.number cs (all_placed p a);
+      placed = all_without (InLengths p.lengths) contour_number s.contour.number cs (all_placed p a);
       at = q;
     }
 
 -- ---- the whole order
 
-module _ (p : Plate) (words : List ℕ) (n done : ℕ) (last : Oriented) (st : State p words n done last) where
+module _ {p : Plate} {words : List ℕ} {n done : ℕ} {last : Oriented} (st : State p words n done last) where
   whole : order_after p (length st.left) st.left last ≡ [] → Whole p words done
   whole e =
       let r : order p ≡ st.ordered = st.result ∙ ap (λ (ss : List Oriented). st.ordered ++ ss) e ∙ append-nil st.ordered in (

@@ -5,8 +5,9 @@ use Rattle.std.proofs.Math.Option.{Option, none, some}
 use Rattle.rules.specs.Tools.{highest_layer}
 use Rattle.rules.specs.HandedOver.{Plate}
 use Rattle.rules.specs.Start.{Oriented, layer_of}
-use Rattle.start.specs.Oriented.{contour_of, oriented_of}
-use Rattle.packed_contours.specs.Packed.{packed}
+use Rattle.start.specs.OrientedContours.{oriented_of}
+use Rattle.contours.specs.ContourOf.{contour_of}
+use Rattle.packed_contours.specs.PackedNumbers.{packed}
 use Rattle.optimize.specs.declared.nearest.Choice.{Choice}
 
 unfoldable pub choice_of : prelude.Option Choice → Option Oriented
@@ -19,6 +20,6 @@ lowest_of p none = highest_layer
 lowest_of p (some s) = layer_of p s
 
 -- the chosen contour stands at its place, which is below n
-unfoldable pub Stands : List ℕ → ℕ → prelude.Option Choice → Type 0
-Stands words n (Some c) = (c.place < n) × (get_or words c.place 0 ≡ packed (contour_of c.oriented.contour))
-Stands words n None = Unit {0}
+unfoldable pub ChoiceStands : List ℕ → ℕ → prelude.Option Choice → Type 0
+ChoiceStands words n (Some c) = (c.place < n) × (get_or words c.place 0 ≡ packed (contour_of c.oriented.contour))
+ChoiceStands words n None = Unit {0}

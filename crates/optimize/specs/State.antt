@@ -4,11 +4,11 @@ use Rattle.std.specs.Prelude.{◌≡◌, List, ◌++◌, map, ℕ, ◌+◌, leng
 use Rattle.rules.specs.HandedOver.{Plate, Contour}
 use Rattle.rules.specs.Start.{Oriented}
 use Rattle.rules.specs.OrderAndStraight.{order_after, order}
-use Rattle.path.specs.Lists.{All}
-use Rattle.path.specs.Contours.{Rising}
-use Rattle.start.specs.Oriented.{oriented_of}
-use Rattle.start.specs.declared.Oriented as code
-use Rattle.packed_contours.specs.Packed.{packed, packed_sense, Placed}
+use Rattle.plate_laws.specs.Lists.{All}
+use Rattle.plate_laws.specs.Contours.{Rising}
+use Rattle.start.specs.OrientedContours.{oriented_of}
+use Rattle.start.specs.declared.OrientedContour as code
+use Rattle.packed_contours.specs.PackedNumbers.{packed, packed_sense, InLengths}
 
 -- n contours in all, of which `done` are in order, `last` being the last of them
 pub record State (p : Plate) (words : List ℕ) (n done : ℕ) (last : Oriented) : Type 0 where
@@ -20,14 +20,14 @@ pub record State (p : Plate) (words : List ℕ) (n done : ℕ) (last : Oriented)
   pub parts : words ≡ map packed_sense ordered ++ (map packed left ++ tail)
   pub result : order p ≡ ordered ++ order_after p (length left) left last
   pub rising : Rising left
-  pub placed : All (Placed p.lengths) left
-  pub at : Placed p.lengths last.contour
+  pub placed : All (InLengths p.lengths) left
+  pub at : InLengths p.lengths last.contour
 
 -- the work slice begins with the whole order, of `done` contours
 abbrev pub Whole : Plate → List ℕ → ℕ → Type 0
 Whole p words done = (done ≡ length (order p)) × (take done words ≡ map packed_sense (order p))
 
 -- after one more step: where no contour that waits takes part, the order is whole
-unfoldable pub Continued : Plate → List ℕ → ℕ → ℕ → Option code.Oriented → Type 0
+unfoldable pub Continued : Plate → List ℕ → ℕ → ℕ → Option code.OrientedContour → Type 0
 Continued p words n done (Some t) = State p words n (done + 1) (oriented_of t)
 Continued p words n done None = Whole p words done

@@ -6,31 +6,33 @@ ghost use Rattle.std.proofs.Math.Option.{some};
 ghost use Rattle.rules.specs.HandedOver.{Plate, plate_of, contours};
 ghost use Rattle.rules.specs.Start.{start};
 ghost use Rattle.rules.specs.OrderAndStraight.{last_end, order};
-ghost use Rattle.path.specs.Accepted.{Accepted};
-ghost use Rattle.start.specs.Oriented.{contour_of, oriented_of};
-ghost use Rattle.packed_contours.specs.Packed.{packed, packed_sense};
+ghost use Rattle.plate_laws.specs.Accepted.{Accepted};
+ghost use Rattle.start.specs.OrientedContours.{oriented_of};
+ghost use Rattle.contours.specs.ContourOf.{InRange, InSlice, contour_of};
+ghost use Rattle.packed_contours.specs.PackedNumbers.{packed, packed_sense};
 ghost use Rattle.optimize.specs.State.{State, Continued, Whole};
 
 mod nearest;
 
 use crate::nearest::nearest_waiting;
+use contours::first_end;
 use packed_contours::{Packed, list_contours, move_down, place_of};
 use plate::checked_input::CheckedInput;
 use rules::{Point, point_at};
-use start::{Oriented, choose_start_contour, first_end};
+use start::{OrientedContour, choose_start_contour};
 
 // Where a contour in its sense ends.
-#[tactic(auto, using(crate::proofs::Ends::end_within, crate::proofs::Ends::other_end), unfolding(rules::specs::OrderAndStraight::last_end, rules::specs::HandedOver::vertex_at, start::specs::Oriented::oriented_of, start::specs::Oriented::contour_of))]
-fn last_end(points: &[f64], s: Oriented) -> Point
-    requires small { s.contour.first.0 + s.contour.last < 65536 }
-    requires held { 2 * (s.contour.first.0 + s.contour.last) + 1 < length points.now }
+#[tactic(auto, using(start::specs::Agrees::end_within, crate::proofs::Ends::other_end), unfolding(rules::specs::OrderAndStraight::last_end, rules::specs::HandedOver::vertex_at, start::specs::OrientedContours::oriented_of, contours::specs::ContourOf::contour_of))]
+fn last_end(points: &[f64], s: OrientedContour) -> Point
+    requires small { InRange s.contour }
+    requires held { InSlice points.now s.contour }
     ensures { (p : Plate) → p.points ≡ points.now → result ≡ last_end p (oriented_of s) }
 {
     point_at(points, first_end(s.contour, !s.reversed))
 }
 
 // Puts the contour that the path starts with first.
-fn put_first(work: &mut [u32], s: Oriented)
+fn put_first(work: &mut [u32], s: OrientedContour)
     requires { (p : Plate) × (work.old ≡ map packed (contours p)) × (start p ≡ some (oriented_of s)) × Accepted p.points p.lengths }
     ensures { (p : Plate) → work.old ≡ map packed (contours p) → start p ≡ some (oriented_of s) → Accepted p.points p.lengths →
         State p work.new (length work.old) 1 (oriented_of s) }
@@ -46,9 +48,10 @@ fn put_next(
     checked: &CheckedInput<'_>,
     work: &mut [u32],
     done: usize,
-    last: Oriented,
-) -> Option<Oriented>
-    requires { (done < length work.old) × State (plate_of checked.now.input) work.old (length work.old) done (oriented_of last) }
+    last: OrientedContour,
+) -> Option<OrientedContour>
+    requires inside { done < length work.old }
+    requires state { State (plate_of checked.now.input) work.old (length work.old) done (oriented_of last) }
     ensures { Continued (plate_of checked.now.input) work.new (length work.old) done result }
 {
     let q = last_end(checked.input.points, last);
@@ -61,8 +64,9 @@ fn put_next(
 }
 
 // Puts the contours that are listed in order, and answers how many take part.
-fn put_in_order(checked: &CheckedInput<'_>, work: &mut [u32], first: Oriented) -> usize
-    requires { (work.old ≡ map packed (contours (plate_of checked.now.input))) × (start (plate_of checked.now.input) ≡ some (oriented_of first)) }
+fn put_in_order(checked: &CheckedInput<'_>, work: &mut [u32], first: OrientedContour) -> usize
+    requires listed { work.old ≡ map packed (contours (plate_of checked.now.input)) }
+    requires start { start (plate_of checked.now.input) ≡ some (oriented_of first) }
     ensures { Whole (plate_of checked.now.input) work.new result }
 {
     put_first(&mut *work, first);

@@ -5,39 +5,41 @@ ghost use Rattle.rules.specs.HandedOver as handed;
 ghost use Rattle.rules.specs.HandedOver.{Plate, plate_of, layer_at};
 ghost use Rattle.rules.specs.Start.{layer_of};
 ghost use Rattle.rules.specs.OrderAndStraight.{nearer_sense, nearer_end};
-ghost use Rattle.path.specs.Lists.{All};
-ghost use Rattle.path.specs.Layers.{leads_in};
-ghost use Rattle.start.specs.Oriented.{contour_of, oriented_of};
-ghost use Rattle.packed_contours.specs.Packed.{packed, Placed};
-ghost use Rattle.optimize.specs.Choice.{choice_of, lowest_of, Stands};
+ghost use Rattle.plate_laws.specs.Lists.{All};
+ghost use Rattle.plate_laws.specs.Layers.{leads_in};
+ghost use Rattle.start.specs.OrientedContours.{oriented_of};
+ghost use Rattle.contours.specs.ContourOf.{InRange, InSlice, contour_of};
+ghost use Rattle.packed_contours.specs.PackedNumbers.{packed, InLengths};
+ghost use Rattle.optimize.specs.Choice.{choice_of, lowest_of, ChoiceStands};
 
+use contours::{ContourRange, first_end};
 use packed_contours::contour_at;
 use plate::checked_input::CheckedInput;
 use point::bound::is_beyond;
 use rules::{HIGHEST_LAYER, Point, point_at};
-use start::{Contour, Oriented, first_end, orient};
+use start::{OrientedContour, orient};
 
 // What the scan has chosen: a place among the waiting contours and the contour there, in its nearer sense.
 #[derive(Clone, Copy)]
 pub struct Choice {
     pub place: usize,
-    pub oriented: Oriented,
+    pub oriented: OrientedContour,
 }
 
 // A contour that waits, and the point that it is seen from. The points have its vertices.
 #[derive(Clone, Copy)]
-pub struct Waiting<'a> {
+pub struct WaitingContour<'a> {
     pub points: &'a [f64],
     pub from: Point,
-    pub contour: Contour,
+    pub contour: ContourRange,
     pub layer: u32,
-    ghost small: { contour.first.0 + contour.last < 65536 },
-    ghost held: { 2 * (contour.first.0 + contour.last) + 1 < length points.now },
+    ghost small: { InRange contour },
+    ghost held: { InSlice points.now contour },
 }
 
-impl Waiting<'_> {
+impl WaitingContour<'_> {
     // Forward where forward ≤ reverse.
-    pub fn nearer_sense(&self) -> Oriented
+    pub fn nearer_sense(&self) -> OrientedContour
         ensures contour { result.contour ≡ self.now.contour }
         ensures nearer { (p : Plate) → p.points ≡ self.now.points.now → oriented_of result ≡ nearer_sense p self.now.from (contour_of self.now.contour) }
     {
@@ -69,7 +71,8 @@ impl Waiting<'_> {
     // Whether the choice surely stays as it is after this contour: it is of a higher layer, or of the choice's and passed over. `lowest` is the choice's
     // layer, and where nothing is chosen yet the highest that takes part.
     fn leaves(&self, best: Option<Choice>, lowest: u32) -> bool
-        ensures same { result ≡ true → (p : Plate) → p.points ≡ self.now.points.now → lowest ≡ lowest_of p (choice_of best) → self.now.layer ≡ layer_at p (contour_of self.now.contour) →
+        ensures same { result ≡ true → (p : Plate) → p.points ≡ self.now.points.now → lowest ≡ lowest_of p (choice_of best) →
+            self.now.layer ≡ layer_at p (contour_of self.now.contour) →
             choice_of best ≡ leads_in (layer_of p) nearer_end (choice_of best) (nearer_sense p self.now.from (contour_of self.now.contour)) }
         ensures low { result ≡ false → self.now.layer ≤ lowest }
     {
@@ -78,10 +81,11 @@ impl Waiting<'_> {
 }
 
 // The choice after one more contour.
-#[tactic(auto, using(crate::proofs::Choices::later), unfolding(rules::specs::Tools::leads, rules::specs::Tools::pick, rules::specs::OrderAndStraight::nearer_end, start::specs::Oriented::oriented_of, crate::specs::Choice::choice_of, crate::specs::Choice::Stands))]
-fn nearer(best: Option<Choice>, place: usize, oriented: Oriented) -> Option<Choice>
+#[tactic(auto, using(crate::proofs::Choices::later), unfolding(rules::specs::Tools::leads, rules::specs::Tools::pick, rules::specs::OrderAndStraight::nearer_end, start::specs::OrientedContours::oriented_of, crate::specs::Choice::choice_of, crate::specs::Choice::ChoiceStands))]
+fn nearer(best: Option<Choice>, place: usize, oriented: OrientedContour) -> Option<Choice>
     ensures leads { choice_of result ≡ leads nearer_end (choice_of best) (oriented_of oriented) }
-    ensures stands { (words : List ℕ) → Stands words place best → place < length words → get_or words place 0 ≡ packed (contour_of oriented.contour) → Stands words (place + 1) result }
+    ensures stands { (words : List ℕ) → ChoiceStands words place best → place < length words →
+        get_or words place 0 ≡ packed (contour_of oriented.contour) → ChoiceStands words (place + 1) result }
 {
     let Some(old) = best else {
         return Some(Choice { place, oriented });
@@ -93,12 +97,18 @@ fn nearer(best: Option<Choice>, place: usize, oriented: Oriented) -> Option<Choi
 }
 
 // The choice after a contour: one of a lower layer than the choice's takes its place, one of a higher layer waits. Who leads by layers is no generic
-// function with `start`'s and `choosing`'s: each keeps another kind of lead. `start` keeps ends, compared by the strategy; `choosing` a number, compared by
+// function with `start`'s and `waiting`'s: each keeps another kind of lead. `start` keeps ends, compared by the strategy; `waiting` a number, compared by
 // the cached distances; here it is a place, behind `is_passed_over`, which passes over most contours without an exact sum.
-fn choice_after(best: Option<Choice>, place: usize, c: &Waiting<'_>, lowest: u32) -> Option<Choice>
+fn choice_after(
+    best: Option<Choice>,
+    place: usize,
+    c: &WaitingContour<'_>,
+    lowest: u32,
+) -> Option<Choice>
     ensures leads { (p : Plate) → p.points ≡ c.now.points.now → lowest ≡ lowest_of p (choice_of best) → c.now.layer ≡ layer_at p (contour_of c.now.contour) →
         choice_of result ≡ leads_in (layer_of p) nearer_end (choice_of best) (nearer_sense p c.now.from (contour_of c.now.contour)) }
-    ensures stands { (words : List ℕ) → Stands words place best → place < length words → get_or words place 0 ≡ packed (contour_of c.now.contour) → Stands words (place + 1) result }
+    ensures stands { (words : List ℕ) → ChoiceStands words place best → place < length words →
+        get_or words place 0 ≡ packed (contour_of c.now.contour) → ChoiceStands words (place + 1) result }
 {
     if c.leaves(best, lowest) {
         return best;
@@ -112,9 +122,10 @@ fn choice_after(best: Option<Choice>, place: usize, c: &Waiting<'_>, lowest: u32
 
 // The waiting contour of the lowest layer that is nearest to q: strictly least distance wins, the lower contour on ties.
 pub fn nearest_waiting(checked: &CheckedInput<'_>, waiting: &[u32], q: Point) -> Option<Choice>
-    requires { (cs : List handed.Contour) × (waiting.now ≡ map packed cs) × All (Placed checked.now.input.lengths.now) cs }
-    ensures place { Stands waiting.now (length waiting.now) result }
-    ensures choice { (cs : List handed.Contour) → waiting.now ≡ map packed cs → All (Placed checked.now.input.lengths.now) cs → let p = plate_of checked.now.input in
+    requires { (cs : List handed.Contour) × (waiting.now ≡ map packed cs) × All (InLengths checked.now.input.lengths.now) cs }
+    ensures place { ChoiceStands waiting.now (length waiting.now) result }
+    ensures choice { (cs : List handed.Contour) → waiting.now ≡ map packed cs → All (InLengths checked.now.input.lengths.now) cs →
+        let p = plate_of checked.now.input in
         choice_of result ≡ foremost (layer_of p) nearer_end (map (nearer_sense p q) cs) }
 {
     let input = checked.input;
@@ -123,7 +134,7 @@ pub fn nearest_waiting(checked: &CheckedInput<'_>, waiting: &[u32], q: Point) ->
     for (i, &word) in waiting.iter().enumerate() {
         let contour = contour_at(input.lengths, word);
         let layer = input.layers[contour.number as usize];
-        let c = Waiting {
+        let c = WaitingContour {
             points: input.points,
             from: q,
             contour,

@@ -5,17 +5,18 @@ use Prim.Native.Nat.{ℕ, ◌*◌, ◌≤◌, min}
 use native.Mathlib.Omega.{arith}
 use lib.ListN.{length, take, length-map}
 use lib.Seq.{take-take}
+use Rattle.rules.specs.Limits.{most_contours}
 use Rattle.rules.specs.HandedOver.{Plate}
 use Rattle.rules.specs.Start.{Oriented}
 use Rattle.rules.specs.OrderAndStraight.{order, entries}
-use Rattle.path.specs.Lists.{All}
-use Rattle.path.specs.Accepted.{Accepted, Layered}
-use Rattle.path.specs.Start.{layered_part}
-use Rattle.path.specs.Ordering.{order_few}
+use Rattle.plate_laws.specs.Lists.{All}
+use Rattle.plate_laws.specs.Accepted.{Accepted, Layered}
+use Rattle.plate_laws.specs.Start.{layered_part}
+use Rattle.plate_laws.specs.Ordering.{order_few}
 use Rattle.slices.specs.Over.{take_min}
 use Rattle.slices.specs.Pairs.{pairs, pairs_take}
-use Rattle.packed_contours.specs.Packed.{packed_sense, number_in}
-use Rattle.packed_contours.specs.Unpacked.{sense_is, Unpacked, order_unpacked, words_there}
+use Rattle.packed_contours.specs.PackedNumbers.{packed_sense, number_in}
+use Rattle.packed_contours.specs.UnpackedNumbers.{sense_is, Unpacked, order_unpacked}
 use Rattle.order.specs.Senses.{told_sense}
 
 entries_packed : (ns : List ℕ) (ss : List Oriented) → All (Unpacked ns) ss → pairs number_in told_sense (map packed_sense ss) ≡ entries ss
@@ -29,15 +30,15 @@ entries_length [] = refl
 entries_length (s ∷ ss) = omega (arith, entries_length ss)
 
 -- what a work slice holds once the contours are ordered
-pub record Ordered (p : Plate) (count : ℕ) (work : List ℕ) : Type 0 where
+pub record EntriesInOrder (p : Plate) (count : ℕ) (work : List ℕ) : Type 0 where
   pub accepted : Accepted p.points p.lengths
   pub layered : Layered (length p.lengths) p.layers
   pub counted : count ≡ length (order p)
   pub words : take count work ≡ map packed_sense (order p)
 
-module _ {p : Plate} {count : ℕ} {work : List ℕ} (o : Ordered p count work) where
-  pub count_few : (count ≤ 4096) × (count ≤ length work)
-  count_few = (omega (arith, order_few p (layered_part p o.layered), o.counted, o.accepted.contours), words_there count work (order p) o.counted o.words)
+module _ {p : Plate} {count : ℕ} {work : List ℕ} (o : EntriesInOrder p count work) where
+  pub count_few : count ≤ most_contours
+  count_few = omega (arith, order_few p (layered_part p o.layered), o.counted, o.accepted.contours)
 
   -- the entries of as many words as have room
   pub entries_first : (n room : ℕ) → n ≡ min count room → pairs number_in told_sense (take n work) ≡ take (2 * room) (entries (order p))

@@ -5,7 +5,7 @@ ghost use Rattle.std.specs.Prelude.{◌≡◌, ◌*◌, ◌≤◌, length};
 ghost use Rattle.rules.specs.HandedOver.{plate_of, over, answer_of, WorkKept};
 ghost use Rattle.rules.specs.Calls.{order_call};
 ghost use Rattle.slices.specs.Pairs.{pairs};
-ghost use Rattle.packed_contours.specs.Packed.{number_in};
+ghost use Rattle.packed_contours.specs.PackedNumbers.{number_in};
 ghost use Rattle.order.specs.Senses.{told_sense};
 
 use optimize::optimize_path_order;

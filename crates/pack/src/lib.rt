@@ -24,7 +24,9 @@ fn nearest_even(m: u64, twice: u64, unit: u64) -> u64
 
 // q without its last cut digits, rounded; the sticky bit says whether something lies below them.
 fn rounded_shift(q: u64, sticky: u64, cut: u64) -> u64
-    requires { (q < 2 ^ 63) × (sticky ≤ 1) × (cut < 64) }
+    requires fits { q < 2 ^ 63 }
+    requires sticky { sticky ≤ 1 }
+    requires cut { cut < 64 }
     ensures { result ≡ closest (2 * q + sticky) (2 * 2 ^ cut) }
 {
     let m = q >> cut;
@@ -43,7 +45,10 @@ fn ulp_exponent(q: u64, e: u64) -> u64
 
 // (q + sticky / 2) × 2^e, in units of 2^-2276, rounded once.
 fn round_pack(q: u64, sticky: u64, e: u64) -> f64
-    requires { (2 ^ 53 ≤ q) × (q < 2 ^ 63) × (sticky ≤ 1) × (e ≤ 5000) }
+    requires least { 2 ^ 53 ≤ q }
+    requires fits { q < 2 ^ 63 }
+    requires sticky { sticky ≤ 1 }
+    requires exponent { e ≤ 5000 }
     ensures { result ≡ rounded_from q sticky e }
 {
     let k = ulp_exponent(q, e);
@@ -59,7 +64,10 @@ fn round_pack(q: u64, sticky: u64, e: u64) -> f64
 
 // The same of a wide number, whose lower half only says whether it is zero.
 pub fn round_pack_wide(w: Wide, sticky: u64, e: u64) -> f64
-    requires { (2 ^ 53 ≤ w.hi) × (w.hi < 2 ^ 63) × (sticky ≤ 1) × (e ≤ 5000) }
+    requires least { 2 ^ 53 ≤ w.hi }
+    requires fits { w.hi < 2 ^ 63 }
+    requires sticky { sticky ≤ 1 }
+    requires exponent { e ≤ 5000 }
     ensures { result ≡ rounded_from w.hi (sticky_bit (sticky + sticky_bit w.lo)) e }
 {
     round_pack(w.hi, sticky_bit(sticky + sticky_bit(w.lo)), e)

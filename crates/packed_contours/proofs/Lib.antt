@@ -1,3 +1,3 @@
-pub mod Listing
-pub mod Moving
+pub mod ListedContours
+pub mod MovedDown
 pub mod Words

@@ -1,11 +1,15 @@
 -- The contours of accepted points and lengths are placed within the limits. Assumes nothing.
 use Rattle.std.specs.Prelude.{◌≡◌, List, [], ◌∷◌, ℕ, zero, suc, ◌+◌, ◌-◌, ◌≤◌, ◌<◌, length, get_or}
 use Rattle.std.proofs.Common.{arith}
+use Rattle.std.proofs.Math.Option.{some}
 use Rattle.rules.specs.Tools.{sum}
 use Rattle.rules.specs.HandedOver.{Plate, Contour, contours_from, contours}
-use Rattle.path.specs.Lists.{All, all_give}
-use Rattle.path.specs.Accepted.{Accepted}
-use Rattle.packed_contours.specs.Packed.{Placed}
+use Rattle.rules.specs.Start.{Oriented, start}
+use Rattle.plate_laws.specs.Lists.{All, all_give}
+use Rattle.plate_laws.specs.Accepted.{Accepted}
+use Rattle.plate_laws.specs.Contours.{all_among}
+use Rattle.plate_laws.specs.Start.{start_is}
+use Rattle.packed_contours.specs.PackedNumbers.{InLengths}
 
 -- c is a contour of the lengths that begin at contour j and vertex v
 record From (j v : ℕ) (ns : List ℕ) (c : Contour) : Type 0 where
@@ -40,11 +44,11 @@ all_from j v (suc n ∷ ns) = (here, all_give _ _ (from_cons j v (suc n) ns) (co
     here : From j v (suc n ∷ ns) (record { number = j; first = v; last = n })
     here = record { least = omega arith; most = omega arith; long = rw z (omega arith); inside = omega arith }
 
-pub all_placed : (p : Plate) → Accepted p.points p.lengths → All (Placed p.lengths) (contours p)
+pub all_placed : (p : Plate) → Accepted p.points p.lengths → All (InLengths p.lengths) (contours p)
 unfolding contours
 all_placed p a = all_give _ _ placed (contours_from 0 0 p.lengths) (all_from 0 0 p.lengths)
   where
-    placed : (c : Contour) → From 0 0 p.lengths c → Placed p.lengths c
+    placed : (c : Contour) → From 0 0 p.lengths c → InLengths p.lengths c
     placed c h =
         let z : c.number - 0 ≡ c.number = omega arith in
         record {
@@ -54,3 +58,7 @@ all_placed p a = all_give _ _ placed (contours_from 0 0 p.lengths) (all_from 0 0
           inside = omega (arith, h.inside);
           small = omega (arith, h.inside, a.points);
         }
+
+-- so the contour that leads
+pub start_placed : (p : Plate) (s : Oriented) → Accepted p.points p.lengths → start p ≡ some s → InLengths p.lengths s.contour
+start_placed p s a e = all_among (InLengths p.lengths) (contours p) (all_placed p a) s.contour (start_is p s e)

@@ -1,3 +1,3 @@
-pub mod Packed
+pub mod PackedNumbers
 pub mod Contours
-pub mod Unpacked
+pub mod UnpackedNumbers

@@ -2,14 +2,14 @@
 #![tactic(auto)]
 
 ghost use Rattle.std.specs.Prelude.{◌≡◌, map, ◌++◌, ◌∷◌, ℕ, ◌+◌, ◌-◌, ◌*◌, ◌≤◌, ◌<◌, length, get_or, take, drop, IfSome, IsNone};
+ghost use Rattle.rules.specs.Limits.{most_contours, most_points};
 ghost use Rattle.rules.specs.Tools.{pick, sum};
 ghost use Rattle.rules.specs.HandedOver.{contours_from, over};
-ghost use Rattle.packed_contours.specs.Packed.{packed, number_in, first_in};
-ghost use Rattle.packed_contours.specs.Unpacked.{reversed_in};
+ghost use Rattle.packed_contours.specs.PackedNumbers.{number_unit, sense_unit, packed, number_in, first_in};
+ghost use Rattle.packed_contours.specs.UnpackedNumbers.{reversed_in};
 
+use contours::{ContourRange, Contours};
 use rules::Vertex;
-use start::Contour;
-use start::contours::Contours;
 
 // What the number of a contour, and whether it is reversed, count in a word.
 const NUMBER_UNIT: u32 = 65536;
@@ -22,15 +22,18 @@ pub struct Packed {
     pub first: Vertex,
     pub number: u32,
     pub reversed: bool,
-    ghost small: { first.0 < 65536 },
-    ghost few: { number < 4096 },
+    ghost small: { first.0 < most_points },
+    ghost few: { number < most_contours },
 }
 
 impl Packed {
     // A contour in a sense.
-    pub fn of(c: Contour, reversed: bool) -> Packed
-        requires { (c.number < 4096) × (c.first.0 < 65536) }
-        ensures { (result.number ≡ c.number) × (result.first.0 ≡ c.first.0) × (result.reversed ≡ reversed) }
+    pub fn of(c: ContourRange, reversed: bool) -> Packed
+        requires few { c.number < most_contours }
+        requires small { c.first.0 < most_points }
+        ensures number { result.number ≡ c.number }
+        ensures first { result.first.0 ≡ c.first.0 }
+        ensures reversed { result.reversed ≡ reversed }
     {
         Packed {
             first: c.first,
@@ -53,7 +56,7 @@ impl From<u32> for Packed {
 }
 
 impl From<Packed> for u32 {
-    ghost from_gives = { λ p word. word ≡ p.number * 65536 + p.first.0 + pick p.reversed 268435456 0 };
+    ghost from_gives = { λ p word. word ≡ p.number * number_unit + p.first.0 + pick p.reversed sense_unit 0 };
 
     #[tactic(auto, unfolding(rules::specs::Tools::pick))]
     fn from(p: Packed) -> u32 {
@@ -63,13 +66,16 @@ impl From<Packed> for u32 {
 }
 
 // The contour of a packed number.
-pub fn contour_at(lengths: &[u32], word: u32) -> Contour
-    requires { (number_in word < length lengths.now) × (0 < get_or lengths.now (number_in word) 0) }
-    ensures { (result.number ≡ number_in word) × (result.first.0 ≡ first_in word) × (result.last + 1 ≡ get_or lengths.now (number_in word) 0) }
+pub fn contour_at(lengths: &[u32], word: u32) -> ContourRange
+    requires listed { number_in word < length lengths.now }
+    requires some { 0 < get_or lengths.now (number_in word) 0 }
+    ensures number { result.number ≡ number_in word }
+    ensures first { result.first.0 ≡ first_in word }
+    ensures last { result.last + 1 ≡ get_or lengths.now (number_in word) 0 }
 {
     let packed = Packed::from(word);
     let size = lengths[packed.number as usize];
-    Contour {
+    ContourRange {
         number: packed.number,
         first: packed.first,
         last: size - 1,
@@ -86,10 +92,12 @@ pub fn place_of(words: &[u32], word: u32) -> Option<usize>
 
 // Writes the contours that are not empty, packed, to the start of the work slice, and answers how many they are.
 pub fn list_contours(lengths: &[u32], work: &mut [u32]) -> usize
-    requires { (length lengths.now ≤ 4096) × (sum lengths.now ≤ 65536) × (length lengths.now ≤ length work.old) }
-    ensures { (result ≤ length lengths.now)
-        × (result ≡ length (contours_from 0 0 lengths.now))
-        × (work.new ≡ over (map packed (contours_from 0 0 lengths.now)) work.old) }
+    requires few { length lengths.now ≤ most_contours }
+    requires small { sum lengths.now ≤ most_points }
+    requires room { length lengths.now ≤ length work.old }
+    ensures few { result ≤ length lengths.now }
+    ensures count { result ≡ length (contours_from 0 0 lengths.now) }
+    ensures words { work.new ≡ over (map packed (contours_from 0 0 lengths.now)) work.old }
 {
     // It is the answer too, and so no `enumerate`.
     let mut n: usize = 0;
@@ -102,7 +110,8 @@ pub fn list_contours(lengths: &[u32], work: &mut [u32]) -> usize
 
 // Moves the number at k down to s, as word, and those from s on up by one.
 pub fn move_down(work: &mut [u32], s: usize, k: usize, word: u32)
-    requires { (s ≤ k) × (k < length work.old) }
+    requires below { s ≤ k }
+    requires inside { k < length work.old }
     ensures { work.new ≡ take s work.old ++ (word ∷ (take (k - s) (drop s work.old) ++ drop (k + 1) work.old)) }
 {
     work.copy_within(s..k, s + 1);

@@ -5,11 +5,12 @@ use Rattle.std.proofs.Math.Path.{fun_ext}
 use Rattle.std.proofs.lemmas.Bool.{eqb-false}
 use Rattle.rules.specs.Tools.{pick, sum, up_from}
 use Rattle.rules.specs.HandedOver.{Plate, at, Answer, gives, refuses, RefusalRow, refused_by, after}
-use Rattle.rules.specs.RetraceAndMarks.{cut_kind, back_step_kind, jump_kind, touch_kind, Step, retrace, coordinates, marks, kind_at, count_marks, marks_of}
+use Rattle.rules.specs.Retrace.{retrace}
+use Rattle.rules.specs.Marks.{cut_kind, back_step_kind, jump_kind, touch_kind, Step, coordinates, marks, kind_at, count_marks, marks_of, vertices}
 use Rattle.rules.specs.Lengths.{pair_length, is_cut, is_back_step, is_jump_or_touch, counted_length, length_along}
-use Rattle.rules.specs.Calls.{totals, path_totals, vertices, retrace_call}
+use Rattle.rules.specs.Calls.{totals, path_totals, retrace_call}
 use Rattle.rules.specs.declared.Totals.{Totals}
-use Rattle.path.specs.Slices.{twice}
+use Rattle.plate_laws.specs.Slices.{twice}
 use Rattle.path.specs.Totals.{count_either}
 use Rattle.path.specs.TouchesAsJumps.{kind_as_jump, as_jump, jump_retrace}
 use Rattle.path.specs.CountsAsJumps.{counts_as_jumps, jump_retrace_call, answer_as_jumps}

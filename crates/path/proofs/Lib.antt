@@ -1,4 +1,3 @@
-pub mod Layers
 pub mod TouchesAsJumps
 pub mod CountsAsJumps
-pub mod Written
+pub mod WrittenDivision

@@ -11,10 +11,8 @@ use Rattle.rules.specs.HandedOver.{Plate, Contour, at, vertex_at}
 use Rattle.rules.specs.Start.{Oriented, start}
 use Rattle.rules.specs.GridAndNearest.{nearest}
 use Rattle.rules.specs.SamplesAndCache.{Waiting}
-use Rattle.rules.specs.RetraceAndMarks.{start_kind, jump_kind, touch_kind, coincide, landing_kind, Step, land, cut_up, cut_down, back_step, step_at, vertex_of, walk_to, walk_back}
-use Rattle.rules.specs.RetraceAndMarks.{forward, backward, return_to, both_ways, emit, entry_of, begin, path_points, choose, place_in}
-use Rattle.rules.specs.RetraceAndMarks.{entered, join_all, retrace_from, retrace_of, retrace}
-use Rattle.rules.specs.Calls.{vertices}
+use Rattle.rules.specs.Retrace.{step_at, vertex_of, walk_to, walk_back, forward, backward, return_to, both_ways, emit, entry_of, begin, path_points, choose, place_in, entered, join_all, retrace_from, retrace_of, retrace}
+use Rattle.rules.specs.Marks.{start_kind, jump_kind, touch_kind, coincide, landing_kind, Step, land, cut_up, cut_down, back_step, vertices}
 use Rattle.rules.specs.declared.Point.{Point}
 use Rattle.rules.specs.declared.SpatialGrid.{SpatialGrid}
 use Rattle.path.specs.TouchesAsJumps.{jump_entered, jump_join_all, jump_retrace_from, jump_retrace_of, jump_retrace, kind_as_jump, as_jump}
@@ -62,14 +60,14 @@ landing_as a b = go (coincide a b)
     go false = refl
 
 -- the nearest place is found among the same points
-entered_as : (p : Plate) (g : SpatialGrid) (path : List Step) (w : Waiting) → map as_jump (entered p g path w) ≡ jump_entered p g (map as_jump path) w
+entered_as : (p : Plate) (g : SpatialGrid) (path : List Step) (c : Contour) (e : ℕ) → map as_jump (entered p g path c e) ≡ jump_entered p g (map as_jump path) c e
 unfolding entered jump_entered
-entered_as p g path w =
-    let q = vertex_at p w.contour w.kept.entry in
+entered_as p g path c e =
+    let q = vertex_at p c e in
     let h = place_in (nearest g (path_points p path) q) in
     let back = path ++ walk_back path h in
     let walked : map as_jump back ≡ map as_jump path ++ walk_back (map as_jump path) h = map-append as_jump path (walk_back path h) ∙ rw (walk_as path h) in
-    rw (points_as p path, ← walked, length-map back as_jump, ← landing_as (at p.points (vertex_of path h)) q, ← emit_as _ w.contour w.kept.entry (length back))
+    rw (points_as p path, ← walked, length-map back as_jump, ← landing_as (at p.points (vertex_of path h)) q, ← emit_as _ c e (length back))
     (map-append as_jump back _)
 
 join_as : (p : Plate) (g : SpatialGrid) (n : ℕ) (ws : List Waiting) (path : List Step) →
@@ -82,7 +80,7 @@ join_as p g (suc n) ws path = go (choose p ws) refl (join_as p g n)
         ((vs : List Waiting) (next : List Step) → map as_jump (join_all p g n vs next) ≡ jump_join_all p g n vs (map as_jump next)) →
         map as_jump (join_all p g (suc n) ws path) ≡ jump_join_all p g (suc n) ws (map as_jump path)
     go none e rest = rw (e, join_all, jump_join_all)
-    go (some w) e rest = rw (e, join_all, jump_join_all, ← entered_as p g path w, points_as p (entered p g path w)) (rest _ (entered p g path w))
+    go (some w) e rest = rw (e, join_all, jump_join_all, ← entered_as p g path w.contour w.kept.entry, points_as p (entered p g path w.contour w.kept.entry)) (rest _ (entered p g path w.contour w.kept.entry))
 
 pub retrace_as_jumps : (p : Plate) → map as_jump (retrace p) ≡ jump_retrace p
 unfolding retrace jump_retrace retrace_of jump_retrace_of retrace_from jump_retrace_from begin kind_as_jump pick

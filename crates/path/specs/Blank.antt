@@ -3,12 +3,14 @@ use Rattle.std.specs.Prelude.{◌≡◌, []}
 use Rattle.std.proofs.Common.{ap, ◌∙◌}
 use Rattle.rules.specs.Tools.{sum}
 use Rattle.rules.specs.HandedOver.{Plate, contours}
-use Rattle.rules.specs.RetraceAndMarks.{retrace_of, retrace, coordinates, marks, count_marks, marks_of}
+use Rattle.rules.specs.Retrace.{retrace_of, retrace}
+use Rattle.rules.specs.Marks.{coordinates, marks, count_marks, marks_of, vertices}
 use Rattle.rules.specs.Lengths.{length_along}
-use Rattle.rules.specs.Calls.{totals, path_totals, vertices}
-use Rattle.statement.specs.PathStatement.{contour_count, BlankStatement}
-use Rattle.path.specs.Lists.{empty}
-use Rattle.path.specs.Ordering.{no_start}
+use Rattle.rules.specs.Calls.{totals, path_totals}
+use Rattle.statement.specs.PathStatement.{BlankStatement}
+use Rattle.rules.specs.Contours.{contour_count}
+use Rattle.plate_laws.specs.Lists.{empty}
+use Rattle.plate_laws.specs.Ordering.{no_start}
 use Rattle.path.specs.Theorem.{retrace_gives}
 
 pub retrace_empty : (p : Plate) → contours p ≡ [] → retrace p ≡ []

@@ -2,8 +2,8 @@
 -- Definitions only.
 use Rattle.std.specs.Prelude.{List, ℕ, ◌+◌, Float, length}
 use Rattle.rules.specs.HandedOver.{Plate, retrace_room, Answer, gives, refuses, refused_by, retrace_rows, after}
-use Rattle.rules.specs.RetraceAndMarks.{coordinates, marks}
-use Rattle.rules.specs.Calls.{path_totals, vertices, RetraceOutcome}
+use Rattle.rules.specs.Marks.{coordinates, marks, vertices}
+use Rattle.rules.specs.Calls.{path_totals, RetraceOutcome}
 use Rattle.rules.specs.declared.Totals.{Totals}
 use Rattle.path.specs.TouchesAsJumps.{jump_retrace}
 

@@ -12,11 +12,13 @@ use borrow.Author.Tests.{eqb-true}
 use Rattle.rules.specs.Tools.{pick, up_from, down_to}
 use Rattle.rules.specs.HandedOver.{Plate, Contour}
 use Rattle.rules.specs.Start.{Oriented}
-use Rattle.rules.specs.RetraceAndMarks.{start_kind, Step, land, cut_up, cut_down, back_step, vertex_of, walk_to, walk_back, forward, backward, return_to, both_ways, emit, entry_of, begin}
-use Rattle.statement.specs.PathStatement.{IsContour, Of, OfContour}
-use Rattle.path.specs.Lists.{All, all_append, all_map, all_up_from, all_down_to}
-use Rattle.path.specs.Pairs.{length_snoc, Follows, Chain, chain_append, Divided}
-use Rattle.path.specs.Runs.{Ends, ends_snoc, Segments, ups_chain, downs_chain, ups_at, ups_length, ups_end, back_to, Stand, backs_chain, backs_end}
+use Rattle.rules.specs.Retrace.{vertex_of, walk_to, walk_back, forward, backward, return_to, both_ways, emit, entry_of, begin}
+use Rattle.rules.specs.Marks.{start_kind, Step, land, cut_up, cut_down, back_step}
+use Rattle.rules.specs.Contours.{IsContour, Of, OfContour}
+use Rattle.plate_laws.specs.Lists.{All, all_append, all_map, all_up_from, all_down_to}
+use Rattle.plate_laws.specs.Steps.{entry_in, length_snoc, Ends, ends_snoc, ups_at, ups_length, ups_end}
+use Rattle.path.specs.Pairs.{Follows, Chain, chain_append, Divided}
+use Rattle.path.specs.Runs.{Segments, ups_chain, downs_chain, back_to, Stand, backs_chain, backs_end}
 
 -- ---- the walk back to place h
 
@@ -176,14 +178,6 @@ module _ (c : Contour) (Q : Step → Type 0) (q : Steps c Q) where
       go true t = forward_has kind
       go false true = backward_has kind
       go false false = both_has kind e b h
-
-pub entry_in : (s : Oriented) → entry_of s ≤ s.contour.last
-unfolding entry_of pick
-entry_in s = go s.reversed
-  where
-    go : (b : Bool) → pick b s.contour.last 0 ≤ s.contour.last
-    go true = omega arith
-    go false = omega arith
 
 pub begin_has : (s : Oriented) (Q : Step → Type 0) → Steps s.contour Q → All Q (begin s)
 unfolding begin

@@ -8,20 +8,21 @@ use Rattle.std.proofs.Math.ListN.{length}
 use Rattle.rules.specs.Tools.{down_to}
 use Rattle.rules.specs.HandedOver.{Plate, Contour, at, contours, vertex_at, layer_at, retrace_room}
 use Rattle.rules.specs.GridAndNearest.{nearest}
-use Rattle.rules.specs.SamplesAndCache.{Waiting}
-use Rattle.rules.specs.RetraceAndMarks.{cut_kind, back_step_kind, Step, land, cut_up, cut_down, back_step, step_at, vertex_of, walk_to, walk_back, landing_kind, emit, begin, path_points, place_in, entered, retrace, marks, kind_at, reference_at}
+use Rattle.rules.specs.Retrace.{step_at, vertex_of, walk_to, walk_back, emit, begin, path_points, place_in, entered, retrace}
+use Rattle.rules.specs.Marks.{cut_kind, back_step_kind, Step, land, cut_up, cut_down, back_step, landing_kind, marks, kind_at, reference_at}
 use Rattle.rules.specs.OrderAndStraight.{contour_number}
 use Rattle.rules.specs.Calls.{totals, path_totals, retrace_call}
-use Rattle.statement.specs.PathStatement.{contour_count, IsContour, Of, Draws, NeverFall, LayerStatement}
+use Rattle.statement.specs.PathStatement.{Draws, NeverFall, LayerStatement}
+use Rattle.rules.specs.Contours.{contour_count, IsContour, Of}
 use Rattle.rules.specs.declared.Totals.{Totals}
-use Rattle.path.specs.Lists.{All, all_of, all_give, all_both, all_append, all_map, all-at, all_without}
-use Rattle.path.specs.Nearest.{grid_for}
-use Rattle.path.specs.Contours.{all_among, others, contour_one}
-use Rattle.path.specs.Start.{AllTakePart}
+use Rattle.plate_laws.specs.Lists.{All, all_of, all_give, all_both, all_append, all_map, all-at, all_without}
+use Rattle.plate_laws.specs.Nearest.{grid_for}
+use Rattle.plate_laws.specs.Contours.{all_among, others, contour_one}
+use Rattle.plate_laws.specs.Start.{AllTakePart}
 use Rattle.path.specs.Blank.{retrace_empty}
-use Rattle.path.specs.Joining.{Begins, Enters, retrace_keeps}
+use Rattle.path.specs.Induction.{Begins, Enters, retrace_keeps}
 use Rattle.path.specs.Emission.{Steps, emit_has, begin_has}
-use Rattle.path.specs.Slices.{marks_length, kind_at_lem, reference_at_lem}
+use Rattle.plate_laws.specs.Slices.{marks_length, kind_at_lem, reference_at_lem}
 use Rattle.path.specs.Theorem.{retrace_gives, slice_after}
 
 module _ (p : Plate) where
@@ -101,26 +102,24 @@ module _ (p : Plate) where
       }
 
   -- what a contour that enters the path adds is new on it only
-  entered_more : (path : List Step) (w : Waiting) → IsContour p w.contour → w.kept.entry ≤ w.contour.last →
-      (ss : List Step) × All (Only w.contour) ss × (entered p (grid_for p) path w ≡ path ++ ss)
+  entered_more : (path : List Step) (c : Contour) (n : ℕ) → IsContour p c → n ≤ c.last →
+      (ss : List Step) × All (Only c) ss × (entered p (grid_for p) path c n ≡ path ++ ss)
   unfolding entered
-  entered_more path w i e =
-      let c = w.contour in
-      let q = vertex_at p c w.kept.entry in
+  entered_more path c n i e =
+      let q = vertex_at p c n in
       let h = place_in (nearest (grid_for p) (path_points p path) q) in
       let kind = landing_kind (at p.points (vertex_of path h)) q in
       let b = length (path ++ walk_back path h) in
-      let new = emit kind c w.kept.entry b in (
+      let new = emit kind c n b in (
         walk_back path h ++ new,
-        all_append (Only c) (walk_back path h) new (walk_only c path h) (emit_has c (Only c) (steps_only c i) kind w.kept.entry b e),
+        all_append (Only c) (walk_back path h) new (walk_only c path h) (emit_has c (Only c) (steps_only c i) kind n b e),
         append_assoc path (walk_back path h) new,
       )
 
   enters : Enters p Layers
-  enters cs path w coming a low e j =
-      let c = w.contour in
+  enters cs path c n coming a low e j =
       let i = all_among (IsContour p) cs coming.all c a in
-      let (ss, only, same) = entered_more path w i e in
+      let (ss, only, same) = entered_more path c n i e in
       let u = all_among (λ x. All (Under x) path) cs j.below c a in
       let more : (d : Contour) → layer_at p c ≤ layer_at p d → All (Under d) path → All (Under d) (path ++ ss) =
       λ d l v. all_append (Under d) path ss v (all_give (Only c) (Under d) (only_under c d l) ss only) in

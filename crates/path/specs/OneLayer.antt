@@ -12,17 +12,18 @@ use Rattle.rules.specs.HandedOver.{RefusalRow, refused_by, bad_layer_count, bad_
 use Rattle.rules.specs.Start.{measured_from, Oriented, ends, layer_of, beats, start}
 use Rattle.rules.specs.GridAndNearest.{grid_of}
 use Rattle.rules.specs.SamplesAndCache.{Waiting, waiting, seed, update, keep, cells_around}
-use Rattle.rules.specs.RetraceAndMarks.{Step, begin, path_points, closer, waiting_layer, choose, waiting_number, entered, join_all, retrace_from, retrace_of, retrace, coordinates, marks}
+use Rattle.rules.specs.Retrace.{begin, path_points, closer, waiting_layer, choose, waiting_number, entered, join_all, retrace_from, retrace_of, retrace}
+use Rattle.rules.specs.Marks.{Step, coordinates, marks, vertices}
 use Rattle.rules.specs.OrderAndStraight.{last_end, nearer_sense, nearer_end, contour_number, order_after, order_from, order_of, order, entries, straight}
-use Rattle.rules.specs.Calls.{start_or, start_call, OrderOutcome, order_call, StraightOutcome, straight_call, path_totals, vertices, RetraceOutcome, retrace_call}
+use Rattle.rules.specs.Calls.{start_or, start_call, OrderOutcome, order_call, StraightOutcome, straight_call, path_totals, RetraceOutcome, retrace_call}
 use Rattle.rules.specs.declared.SpatialGrid.{SpatialGrid}
-use Rattle.path.specs.Lists.{All, all_give, all-at, all_map, all_without}
-use Rattle.path.specs.Layers.{foremost_all}
-use Rattle.path.specs.Rows.{Passed}
-use Rattle.path.specs.Accepted.{Layered}
-use Rattle.path.specs.Contours.{contours_numbered}
-use Rattle.path.specs.Start.{all_ends}
-use Rattle.path.specs.Ordering.{all_nearer}
+use Rattle.plate_laws.specs.Lists.{All, all_give, all-at, all_map, all_without}
+use Rattle.plate_laws.specs.Layers.{foremost_all}
+use Rattle.plate_laws.specs.Rows.{Passed}
+use Rattle.plate_laws.specs.Accepted.{Layered}
+use Rattle.plate_laws.specs.Contours.{contours_numbered}
+use Rattle.plate_laws.specs.Start.{all_ends}
+use Rattle.plate_laws.specs.Ordering.{all_nearer}
 
 -- ---- without layers
 
@@ -53,7 +54,7 @@ plain_join_all p g (suc n) ws path =
     elim (winner closer ws) [
       | none ↦ path
       | some w ↦
-          let next = entered p g path w in
+          let next = entered p g path w.contour w.kept.entry in
           let cells = cells_around (vertex_at p w.contour) g w.contour.last in
           plain_join_all p g n (map (update p g (path_points p next) cells) (without waiting_number (waiting_number w) ws)) next
     ]

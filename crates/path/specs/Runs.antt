@@ -1,24 +1,15 @@
 -- The runs of steps that a path is made of: cuts upward, cuts downward, and back-steps. Assumes nothing.
 use Rattle.std.specs.Prelude.{◌≡◌, refl, List, [], ◌∷◌, ◌++◌, map, ℕ, zero, suc, ◌+◌, ◌-◌, ◌≤◌, ◌<◌, length}
-use Rattle.std.proofs.Common.{sym, ap, ◌∙◌, append-nil, inl, inr, add-zero, add-suc, arith, length-append}
-use Rattle.std.proofs.lemmas.List.{length-map}
+use Rattle.std.proofs.Common.{sym, ap, ◌∙◌, append-nil, inl, inr, add-zero, add-suc, arith}
 use Rattle.std.proofs.Math.Seq.{append_snoc}
 use Rattle.rules.specs.Tools.{up_from, down_to}
 use Rattle.rules.specs.HandedOver.{Plate, Contour}
-use Rattle.rules.specs.RetraceAndMarks.{Step, cut_up, cut_down, back_step, vertex_of}
-use Rattle.statement.specs.PathStatement.{IsContour}
-use Rattle.path.specs.Lists.{length_up_from}
-use Rattle.path.specs.Pairs.{no_landing, vertex_old, vertex_new, length_snoc, Follows, Chain}
-
--- the path has a last point, whose vertex is v
-pub record Ends (path : List Step) (v : ℕ) : Type 0 where
-  pub some : 1 ≤ length path
-  pub last : vertex_of path (length path - 1) ≡ v
-
-pub ends_snoc : (path : List Step) (s : Step) → Ends (path ++ s ∷ []) s.vertex
-ends_snoc path s =
-    let e : length (path ++ s ∷ []) - 1 ≡ length path = omega (arith, length_snoc path s) in
-    record { some = omega (arith, length_snoc path s); last = rw e (vertex_new path s []) }
+use Rattle.rules.specs.Retrace.{vertex_of}
+use Rattle.rules.specs.Marks.{Step, cut_up, cut_down, back_step}
+use Rattle.rules.specs.Contours.{IsContour}
+use Rattle.plate_laws.specs.Steps.{Ends, ends_snoc, vertex_old, vertex_new, length_snoc}
+use Rattle.path.specs.Pairs.{Follows, Chain}
+use Rattle.division_laws.specs.Maps.{no_landing}
 
 -- the two vertices of the pair that a new step makes
 module _ (path : List Step) (s : Step) (v : ℕ) (e : Ends path v) where
@@ -75,29 +66,6 @@ downs_chain p c path a (suc n) i e =
       downs_chain p c (path ++ cut_down (a + n) ∷ []) a n (record { of = i.of; low = i.low; high = omega (arith, i.high) })
           (ends_snoc path (cut_down (a + n))),
     )
-
--- where the vertices of a run upward stand
-pub ups_at : (path : List Step) (a n i : ℕ) → Ends path a → i ≤ n → vertex_of (path ++ map cut_up (up_from a n)) (length path - 1 + i) ≡ a + i
-unfolding cut_up
-ups_at path a n zero e h =
-    let s = e.some in
-    rw (add-zero (length path - 1), add-zero a) (vertex_old path (map cut_up (up_from a n)) (length path - 1) (omega arith) ∙ e.last)
-ups_at path a zero (suc i) e h = absurd (omega arith)
-ups_at path a (suc n) (suc i) e h =
-    let s = e.some in
-    let k : length (path ++ cut_up a ∷ []) - 1 + i ≡ length path - 1 + suc i = omega (arith, length_snoc path (cut_up a)) in
-    let later = ups_at (path ++ cut_up a ∷ []) (suc a) n i (ends_snoc path (cut_up a)) (omega arith) in
-    rw (← append_snoc path (cut_up a) (map cut_up (up_from (suc a) n)), ← k) (later ∙ omega arith)
-
-pub ups_length : (path : List Step) (a n : ℕ) → length (path ++ map cut_up (up_from a n)) ≡ length path + n
-ups_length path a n = omega (arith, length-append path (map cut_up (up_from a n)), length-map (up_from a n) cut_up, length_up_from a n)
-
-pub ups_end : (path : List Step) (a n : ℕ) → Ends path a → Ends (path ++ map cut_up (up_from a n)) (a + n)
-ups_end path a n e =
-    let s = e.some in
-    let l = ups_length path a n in
-    let k : length (path ++ map cut_up (up_from a n)) - 1 ≡ length path - 1 + n = omega arith in
-    record { some = omega arith; last = rw k (ups_at path a n n e (omega arith)) }
 
 -- ---- back-steps
 

@@ -8,17 +8,17 @@ use Rattle.rules.specs.Tools.{pick, sum, up_from, down_to}
 use Rattle.rules.specs.HandedOver.{Plate, Contour, at, contours, vertex_at}
 use Rattle.rules.specs.Start.{Oriented}
 use Rattle.rules.specs.GridAndNearest.{nearest}
-use Rattle.rules.specs.SamplesAndCache.{Waiting}
-use Rattle.rules.specs.RetraceAndMarks.{start_kind, jump_kind, touch_kind, coincide, landing_kind, Step, land, cut_up, cut_down, back_step, vertex_of, walk_to, walk_back, forward, backward, return_to, both_ways, emit, entry_of, begin, path_points, place_in, entered, retrace}
-use Rattle.statement.specs.PathStatement.{contour_count}
+use Rattle.rules.specs.Retrace.{vertex_of, walk_to, walk_back, forward, backward, return_to, both_ways, emit, entry_of, begin, path_points, place_in, entered, retrace}
+use Rattle.rules.specs.Marks.{start_kind, jump_kind, touch_kind, coincide, landing_kind, Step, land, cut_up, cut_down, back_step}
+use Rattle.rules.specs.Contours.{contour_count}
 use Rattle.rules.specs.declared.Point.{Point}
 use Rattle.rules.specs.declared.SpatialGrid.{SpatialGrid}
-use Rattle.path.specs.Sums.{sum_append, sum_up_from, sum_down_to}
-use Rattle.path.specs.Nearest.{grid_for}
-use Rattle.path.specs.Emission.{entry_in}
-use Rattle.path.specs.Contours.{sum_others, contours_rise}
-use Rattle.path.specs.Start.{AllTakePart}
-use Rattle.path.specs.Joining.{retrace_keeps}
+use Rattle.plate_laws.specs.Sums.{sum_append, sum_up_from, sum_down_to}
+use Rattle.plate_laws.specs.Nearest.{grid_for}
+use Rattle.plate_laws.specs.Steps.{entry_in}
+use Rattle.plate_laws.specs.Contours.{sum_others, contours_rise}
+use Rattle.plate_laws.specs.Start.{AllTakePart}
+use Rattle.path.specs.Induction.{retrace_keeps}
 
 -- what each step weighs: a cut by its segment, in either sense, each jump and touch alike, back-steps and the start nothing
 pub record Weights (weight : Step → ℕ) (segment : ℕ → ℕ) (jump : ℕ) : Type 0 where
@@ -111,20 +111,20 @@ module _ (weight : Step → ℕ) (segment : ℕ → ℕ) (jump : ℕ) (h : Weigh
   unfolding begin share
   begin_total s = omega (arith, emit_total start_kind 0 h.start s.contour (entry_of s) 0 (entry_in s))
 
-  entered_total : (p : Plate) (g : SpatialGrid) (path : List Step) (w : Waiting) → w.kept.entry ≤ w.contour.last →
-      total (entered p g path w) ≡ total path + share segment jump w.contour
+  entered_total : (p : Plate) (g : SpatialGrid) (path : List Step) (c : Contour) (e : ℕ) → e ≤ c.last →
+      total (entered p g path c e) ≡ total path + share segment jump c
   unfolding entered walk_back walk_to
-  entered_total p g path w l =
-      let q = vertex_at p w.contour w.kept.entry in
+  entered_total p g path c e l =
+      let q = vertex_at p c e in
       let place = place_in (nearest g (path_points p path) q) in
       let walk = walk_back path place in
       let left = at p.points (vertex_of path place) in
       omega (
         arith,
-        sum_append weight (path ++ walk) (emit (landing_kind left q) w.contour w.kept.entry (length (path ++ walk))),
+        sum_append weight (path ++ walk) (emit (landing_kind left q) c e (length (path ++ walk))),
         sum_append weight path walk,
         backs_total (vertex_of path) (λ i. i) (down_to place (length path - 1 - place)),
-        emit_total (landing_kind left q) jump (landing_weighs left q) w.contour w.kept.entry (length (path ++ walk)) l,
+        emit_total (landing_kind left q) jump (landing_weighs left q) c e (length (path ++ walk)) l,
       )
 
   -- ---- the whole path
@@ -137,5 +137,5 @@ module _ (weight : Step → ℕ) (segment : ℕ → ℕ) (jump : ℕ) (h : Weigh
       let all = sum (map f (contours p)) in
       let e = retrace_keeps p (λ cs path. jump + total path + sum (map f cs) ≡ all)
       (λ s i low. omega (arith, begin_total s, sum_others f s.contour (contours p) (contours_rise p) i))
-      (λ cs path w coming a low e k. omega (arith, entered_total p (grid_for p) path w e, sum_others f w.contour cs coming.rising a, k)) t l in
+      (λ cs path c e coming a low l k. omega (arith, entered_total p (grid_for p) path c e l, sum_others f c cs coming.rising a, k)) t l in
       omega (arith, e)

@@ -7,42 +7,47 @@
 --   o.path ≡ coordinates .. ++ drop ..     the path slice begins with the coordinates of that path, and holds beyond them what it held;
 --   o.marks ≡ marks r ++ drop ..           the marks slice begins with the marks of that path, likewise;
 --   Divides p c (take ..) (take ..)         what was written divides into cuts, back-steps, jumps and touches:
---     whole         there are two coordinates and two numbers of marks for each path point;
+--     whole         there are two coordinates for each path point;
 --     coordinates   each path point has the coordinates of the vertex that the marks give it;
---     start         the first mark is a start, and names a vertex of a contour;
---     pairs         path points k and k + 1 are what the mark of path point k + 1 says, by its kind and its reference m:
---                     a cut, that is segment m of a contour in one of its two senses;
---                     a back-step, that is the pair of path points m and m + 1, which is earlier, reversed;
---                     or a jump or a touch, to vertex m of a contour that no earlier path point is of; and no earlier path point in the nine cells
---                     around that vertex is nearer, by squared distances as document 01 computes them, than the one left; a jump's two points
---                     differ numerically, and a touch's are numerically equal;
---     kinds         c counts the marks of each kind;
---     cuts, jumps   there are S cuts, S being the number of segments, and n − 1 jumps and touches, n being the number of contours;
---     all           there are S + B + n path points, B being the number of back-steps: so no pair is anything else;
---     once          each segment of each contour is cut exactly once.
+--     division      by those vertices the marks divide the path (`Division`, in crates/statement/specs/Division.antt):
+--       whole         there are two numbers of marks for each path point;
+--       start         the first mark is a start, and names a vertex of a contour, which path point 0 has;
+--       pairs         path points k and k + 1 are what the mark of path point k + 1 says, by its kind and its reference m:
+--                       a cut, that is segment m of a contour in one of its two senses;
+--                       a back-step, that is the pair of path points m and m + 1, which is earlier, reversed;
+--                       or a jump or a touch, to vertex m of a contour that no earlier path point is of; a jump's two points differ numerically, and a
+--                       touch's are numerically equal;
+--       cuts, jumps   there are S cuts, S being the number of segments, and n − 1 jumps and touches, n being the number of contours;
+--       all           there are S + B + n path points, B being the number of back-steps: so no pair is anything else;
+--       once          each segment of each contour is cut exactly once;
+--     nine_cells    no earlier path point in the nine cells around a landing is nearer, by squared distances as document 01 computes them, than the one left;
+--     kinds         c counts the marks of each kind.
 --
--- The pairs are proved in Entering (over Pairs, Runs and Emission; the nine cells in Nearest, over Squares and Rings), the numbers in Totals (over Shares),
--- both by the induction over the joining in Joining; the slices in Slices; and what a result says of the plate in Accepted. Assumes nothing.
+-- The pairs are proved in JumpsAndTouches (over Pairs, Runs and Emission; the nine cells in plate_laws/specs/Nearest.antt, over Squares and Rings), the numbers in Totals (over Shares),
+-- both by the induction over the joining in Induction; the slices in MarkedVertices and in plate_laws/specs/Slices.antt; and what a result says of the plate in plate_laws/specs/Accepted.antt. Assumes nothing.
 use Rattle.std.specs.Prelude.{◌≡◌, refl, List, [], ◌∷◌, ◌++◌, ℕ, suc, ◌*◌, ◌≤◌, ◌<◌, Float, length, take, drop}
 use Rattle.std.proofs.Common.{sym, ap, ◌∙◌, arith, ltb→lt, length-take-le, take_at}
 use Rattle.rules.specs.Tools.{pick, every}
 use Rattle.rules.specs.HandedOver.{Plate, Answer, gives, refuses, retrace_room, refused_by, work_short, full, plate_rows, retrace_work, retrace_rows, over, after}
-use Rattle.rules.specs.RetraceAndMarks.{vertex_of, retrace, coordinates, marks}
-use Rattle.rules.specs.Calls.{totals, path_totals, vertices, retrace_call}
-use Rattle.statement.specs.PathStatement.{contour_count, vertex_in, Divides, PathStatement}
+use Rattle.rules.specs.Retrace.{vertex_of, retrace}
+use Rattle.rules.specs.Marks.{coordinates, marks, vertices, kind_at, reference_at, vertex_in}
+use Rattle.rules.specs.Calls.{totals, path_totals, retrace_call}
+use Rattle.statement.specs.PathStatement.{Divides, PathStatement}
+use Rattle.rules.specs.Contours.{contour_count, segment_count, OfContour}
 use Rattle.rules.specs.declared.Totals.{Totals}
-use Rattle.path.specs.Rows.{rows_other, rows_give, rows_append, lacks_other, row_tells}
-use Rattle.path.specs.Accepted.{Accepted, input_other, input_gives, input_lacks, Measurable, accepted_measurable}
-use Rattle.path.specs.Start.{AllTakePart, layered_part}
-use Rattle.path.specs.Pairs.{pair_same, divided_some, divided_start, divided_pairs, divided_length}
-use Rattle.path.specs.Entering.{retrace_divided}
+use Rattle.plate_laws.specs.Rows.{rows_other, rows_give, rows_append, lacks_other, row_tells}
+use Rattle.plate_laws.specs.Accepted.{Accepted, input_other, input_gives, input_lacks, Measurable, accepted_measurable}
+use Rattle.plate_laws.specs.Start.{AllTakePart, layered_part}
+use Rattle.path.specs.Pairs.{PlatePair, pair_same, divided_some, divided_start, divided_pairs, divided_length}
+use Rattle.path.specs.JumpsAndTouches.{retrace_divided}
 use Rattle.path.specs.Totals.{retrace_cuts, retrace_jumps, retrace_once}
-use Rattle.path.specs.Slices.{coordinates_length, marks_length, vertices_length, kind_at_lem, reference_at_lem, coordinates_at, vertices_at, vertex_in_lem}
+use Rattle.path.specs.MarkedVertices.{vertex_in_lem}
+use Rattle.plate_laws.specs.Slices.{coordinates_length, marks_length, vertices_length, kind_at_lem, reference_at_lem, coordinates_at, vertices_at}
 
 -- the path of the documents' rules, as slices
 pub retrace_divides : (p : Plate) → Measurable p → AllTakePart p → 1 ≤ contour_count p →
     Divides p (path_totals p (retrace p)) (coordinates p.points (vertices (retrace p))) (marks (retrace p))
-unfolding totals path_totals
+unfolding contour_count segment_count OfContour vertex_of totals path_totals
 retrace_divides p m t h =
     let path = retrace p in
     let d = retrace_divided p m t h in
@@ -50,20 +55,32 @@ retrace_divides p m t h =
     let some = divided_some p path d in
     let start = divided_start p path d in
     let n = vertices_length path in
+    let pair : (k : ℕ) → suc k < length path → PlatePair p (vertex_in (marks path)) k (kind_at (marks path) (suc k)) (reference_at (marks path) (suc k)) =
+    λ k l.
+    rw (kind_at_lem path (suc k) l, reference_at_lem path (suc k) l)
+    (pair_same p (vertex_in (marks path)) (vertex_of path) (length path) (λ i x. v i) k l _ _ (divided_pairs p path d k l)) in
     let cuts = retrace_cuts p t h in
     let jumps = retrace_jumps p t h in
     record {
-      whole = (omega (arith, coordinates_length p.points (vertices path)), marks_length path);
+      whole = omega (arith, coordinates_length p.points (vertices path));
       coordinates = λ k l. rw (v k, ← vertices_at path k) (coordinates_at p.points (vertices path) k (omega arith));
-      start = (kind_at_lem path 0 some ∙ start.kind, rw (reference_at_lem path 0 some) start.of);
-      pairs = λ k l.
-          rw (kind_at_lem path (suc k) l, reference_at_lem path (suc k) l)
-          (pair_same p (vertex_in (marks path)) (vertex_of path) (length path) (λ i x. v i) k l _ _ (divided_pairs p path d k l));
+      division =
+          record {
+            whole = marks_length path;
+            start =
+                λ l. (
+                  kind_at_lem path 0 some ∙ start.kind,
+                  rw (reference_at_lem path 0 some) start.of,
+                  rw (reference_at_lem path 0 some) (v 0 ∙ start.named),
+                );
+            pairs = λ k l. (pair k l).0;
+            cuts = cuts;
+            jumps = λ l. jumps;
+            all = omega (arith, divided_length p path d);
+            once = retrace_once p t h;
+          };
+      nine_cells = λ k l. (pair k l).1;
       kinds = (refl, refl, refl, refl);
-      cuts = cuts;
-      jumps = jumps;
-      all = omega (arith, divided_length p path d);
-      once = retrace_once p t h;
     }
 
 -- what it means that the call answers with counts

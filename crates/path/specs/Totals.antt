@@ -4,12 +4,13 @@ use Rattle.std.proofs.Common.{sym, ap, ◌∙◌, inl, inr, zero-add, arith, eqb
 use Rattle.std.proofs.Math.Path.{fun_ext}
 use Rattle.rules.specs.Tools.{pick, sum, up_from}
 use Rattle.rules.specs.HandedOver.{Plate, Contour, contours}
-use Rattle.rules.specs.RetraceAndMarks.{cut_kind, jump_kind, touch_kind, Step, land, cut_up, cut_down, back_step, retrace, marks, count_marks, marks_of}
-use Rattle.statement.specs.PathStatement.{contour_count, segments_of, segment_count, IsContour, cuts_of}
-use Rattle.path.specs.Lists.{all_of, all_give, length_up_from}
-use Rattle.path.specs.Sums.{sum_ones, sum_zeros, indicator, sum_absent, sum_once}
-use Rattle.path.specs.Contours.{Apart, others, others_apart, sum_others, contours_rise}
-use Rattle.path.specs.Start.{AllTakePart}
+use Rattle.rules.specs.Retrace.{retrace}
+use Rattle.rules.specs.Marks.{cut_kind, jump_kind, touch_kind, Step, land, cut_up, cut_down, back_step, marks, count_marks, marks_of, cuts_of}
+use Rattle.rules.specs.Contours.{contour_count, segments_of, segment_count, IsContour}
+use Rattle.plate_laws.specs.Lists.{all_of, all_give, length_up_from}
+use Rattle.plate_laws.specs.Sums.{sum_ones, sum_zeros, indicator, sum_absent, sum_once}
+use Rattle.plate_laws.specs.Contours.{Apart, others, others_apart, sum_others, contours_rise}
+use Rattle.plate_laws.specs.Start.{AllTakePart}
 use Rattle.path.specs.Shares.{Weights, share, retrace_total}
 
 -- 1 for a step whose mark passes a test of kind and reference

@@ -8,18 +8,18 @@ use Rattle.rules.specs.HandedOver.{Plate, Contour, contours, vertex_at}
 use Rattle.rules.specs.Start.{Oriented, start}
 use Rattle.rules.specs.GridAndNearest.{grid_of, nearest}
 use Rattle.rules.specs.SamplesAndCache.{Waiting, waiting, seed, update, cells_around}
-use Rattle.rules.specs.RetraceAndMarks.{jump_kind, touch_kind, Step, walk_back}
-use Rattle.rules.specs.RetraceAndMarks.{emit, begin, path_points, choose, waiting_number, place_in}
+use Rattle.rules.specs.Retrace.{walk_back, emit, begin, path_points, choose, waiting_number, place_in}
+use Rattle.rules.specs.Marks.{jump_kind, touch_kind, Step}
 use Rattle.rules.specs.declared.SpatialGrid.{SpatialGrid}
 
 -- ---- without touches
 
-unfoldable pub jump_entered : Plate → SpatialGrid → List Step → Waiting → List Step
-jump_entered p g path w =
-    let q = vertex_at p w.contour w.kept.entry in
+unfoldable pub jump_entered : Plate → SpatialGrid → List Step → Contour → ℕ → List Step
+jump_entered p g path c e =
+    let q = vertex_at p c e in
     let h = place_in (nearest g (path_points p path) q) in
     let back = path ++ walk_back path h in
-    back ++ emit jump_kind w.contour w.kept.entry (length back)
+    back ++ emit jump_kind c e (length back)
 
 unfoldable pub jump_join_all : Plate → SpatialGrid → ℕ → List Waiting → List Step → List Step
 jump_join_all p g zero ws path = path
@@ -27,7 +27,7 @@ jump_join_all p g (suc n) ws path =
     elim (choose p ws) [
       | none ↦ path
       | some w ↦
-          let next = jump_entered p g path w in
+          let next = jump_entered p g path w.contour w.kept.entry in
           let cells = cells_around (vertex_at p w.contour) g w.contour.last in
           jump_join_all p g n (map (update p g (path_points p next) cells) (without waiting_number (waiting_number w) ws)) next
     ]

@@ -1,40 +1,20 @@
 -- The work slice before the first path point, where every contour takes part. Assumes nothing.
 use Rattle.std.specs.Prelude.{◌≡◌, refl, ◌⊎◌, List, [], ◌∷◌, ℕ, zero, suc, ◌+◌, ◌-◌, ◌*◌, ◌≤◌, ◌<◌, length, get_or, set, take}
-use Rattle.std.proofs.Common.{◌∙◌, subst, inl, inr, arith, length-set, get_or-set_same, get_or-set_other}
+use Rattle.std.proofs.Common.{◌∙◌, subst, inl, inr, arith, get_or-set_same, get_or-set_other}
 use Rattle.std.proofs.Math.Decide.{ℕ_discrete}
 use Rattle.rules.specs.Tools.{sum}
 use Rattle.rules.specs.HandedOver.{Contour, contours_from, contours_of}
-use Rattle.rules.specs.RetraceAndMarks.{count_marks}
-use Rattle.statement.specs.PathStatement.{Among, Of, cuts_of}
-use Rattle.statement.specs.PathCheck.{entries_of}
-use Rattle.path.specs.Lists.{All, all_give}
-use Rattle.path.specs.Contours.{all_among, from_on, rising_from, numbers_from, of_one}
-use Rattle.path_rules.specs.Tallied.{Labelled, Tallied}
+use Rattle.rules.specs.Marks.{count_marks, cuts_of, entries_of}
+use Rattle.rules.specs.Contours.{Among, Of}
+use Rattle.plate_laws.specs.Lists.{All, all_give}
+use Rattle.plate_laws.specs.Contours.{all_among, from_on, rising_from, numbers_from, of_one}
+use Rattle.path_rules.specs.PathWords.{Labelled, Tallied}
 
 -- a word written to the places from a up to b
 pub record Filled (before after : List ℕ) (a b word : ℕ) : Type 0 where
   pub kept : length after ≡ length before
   pub new : (u : ℕ) → a ≤ u → u < b → get_or after u 0 ≡ word
   pub old : (u : ℕ) → (u < a) ⊎ (b ≤ u) → get_or after u 0 ≡ get_or before u 0
-
-pub filled_none : (work : List ℕ) (a word : ℕ) → Filled work work a a word
-filled_none work a word = record { kept = refl; new = λ u l h. absurd (omega arith); old = λ u o. refl }
-
-pub filled_more : (before after : List ℕ) (a b word : ℕ) → a ≤ b → b < length after → Filled before after a b word →
-    Filled before (set after b word) a (b + 1) word
-filled_more before after a b word l h f =
-    record {
-      kept = length-set after b word ∙ f.kept;
-      new = λ u x y. go u x y (ℕ_discrete u b);
-      old = λ u o. elim o [
-        | inl x ↦ get_or-set_other after b u word 0 (λ e. omega (arith, e, x, l)) ∙ f.old u (inl x)
-        | inr x ↦ get_or-set_other after b u word 0 (λ e. omega (arith, e, x)) ∙ f.old u (inr (omega (arith, x)))
-      ];
-    }
-  where
-    go : (u : ℕ) → a ≤ u → u < b + 1 → Dec (u ≡ b) → get_or (set after b word) u 0 ≡ word
-    go u x y (yes e) = rw e (get_or-set_same after b word 0 h)
-    go u x y (no n) = get_or-set_other after b u word 0 n ∙ f.new u x (omega (arith, y, n))
 
 -- ---- contours by their lengths
 
@@ -104,26 +84,26 @@ module _ (ns : List ℕ) (total : ℕ) (e : total ≡ sum ns) where
 -- ---- the contours of the lengths
 
 -- contour c stands at its place in the lengths from contour j and vertex v on
-abbrev Placed : ℕ → ℕ → List ℕ → Contour → Type 0
-Placed j v ns c =
+abbrev PlacedFrom : ℕ → ℕ → List ℕ → Contour → Type 0
+PlacedFrom j v ns c =
     (j ≤ c.number) × (c.first ≡ v + sum (take (c.number - j) ns)) × (c.first + suc c.last ≡ v + sum (take (suc (c.number - j)) ns))
 
-placed_shift : (j v w n : ℕ) (ns : List ℕ) (c : Contour) → w ≡ v + n → Placed (suc j) w ns c → Placed j v (n ∷ ns) c
+placed_shift : (j v w n : ℕ) (ns : List ℕ) (c : Contour) → w ≡ v + n → PlacedFrom (suc j) w ns c → PlacedFrom j v (n ∷ ns) c
 unfolding sum
 placed_shift j v w n ns c f h =
     let e : c.number - j ≡ suc (c.number - suc j) = omega (arith, h.0) in
     (omega (arith, h.0), rw e (omega (arith, h.1, f)), rw e (omega (arith, h.2, f)))
 
-places_from : (j v : ℕ) (ns : List ℕ) → All (Placed j v ns) (contours_from j v ns)
+places_from : (j v : ℕ) (ns : List ℕ) → All (PlacedFrom j v ns) (contours_from j v ns)
 unfolding contours_from sum
 places_from j v [] = tt
 places_from j v (zero ∷ ns) =
-    all_give (Placed (suc j) v ns) (Placed j v (0 ∷ ns)) (λ c h. placed_shift j v v 0 ns c (omega arith) h) (contours_from (suc j) v ns)
+    all_give (PlacedFrom (suc j) v ns) (PlacedFrom j v (0 ∷ ns)) (λ c h. placed_shift j v v 0 ns c (omega arith) h) (contours_from (suc j) v ns)
     (places_from (suc j) v ns)
 places_from j v (suc n ∷ ns) =
     let e : j - j ≡ 0 = omega arith in (
       (omega arith, rw e (omega arith), rw e (omega arith)),
-      all_give (Placed (suc j) (v + suc n) ns) (Placed j v (suc n ∷ ns)) (λ c h. placed_shift j v (v + suc n) (suc n) ns c refl h)
+      all_give (PlacedFrom (suc j) (v + suc n) ns) (PlacedFrom j v (suc n ∷ ns)) (λ c h. placed_shift j v (v + suc n) (suc n) ns c refl h)
           (contours_from (suc j) (v + suc n) ns) (places_from (suc j) (v + suc n) ns),
     )
 
@@ -134,7 +114,7 @@ module _ (ns : List ℕ) (total j : ℕ) (work : List ℕ) (e : total ≡ sum ns
 
   vertex_word : (c : Contour) → Among c (contours_of ns) → (v : ℕ) → Of c v → get_or work v 0 ≡ 2 * c.number
   vertex_word c m v o =
-      let q = all_among (Placed 0 0 ns) (contours_of ns) (places_from 0 0 ns) c m in
+      let q = all_among (PlacedFrom 0 0 ns) (contours_of ns) (places_from 0 0 ns) c m in
       let z : c.number - 0 ≡ c.number = omega arith in
       l.vertices c.number v (omega (arith, number_in c m, h)) (omega (arith, rw z at q.1, o)) (omega (arith, rw z at q.2, o))
 

@@ -1,6 +1,6 @@
 pub mod Labels
-pub mod Filling
+pub mod FilledRange
 pub mod TwoParts
-pub mod Ending
-pub mod Failing
+pub mod LeftOut
+pub mod FirstFailing
 pub mod Outcome

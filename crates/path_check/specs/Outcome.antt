@@ -9,7 +9,7 @@ use Rattle.rules.specs.Tools.{pick, sum, first_failing}
 use Rattle.rules.specs.HandedOver.{Contour, contours_of, Answer, gives, refuses, refusal, RefusalRow, refused_by, work_short, contour_rows, frees_work, WorkKept}
 use Rattle.statement.specs.PathCheck.{keeps_rules, complete, miscounted_path, not_drawn, check_rows, check_call}
 use Rattle.rules.specs.declared.Refusal.{Refusal}
-use Rattle.path.specs.Rows.{rows_give, rows_pass, refusal_refuses}
+use Rattle.plate_laws.specs.Rows.{Passed, rows_pass, refusal_refuses}
 
 -- ---- refusal 12
 
@@ -61,9 +61,9 @@ module _ (xs : List Float) (ns : List ℕ) (path : List Float) (ms : List ℕ) (
   unsound r a h = refusal_refuses (contour_rows xs ns) r a _ h ∙ sym behind
 
   -- points and lengths are sound
-  module _ (a b : ℕ) (sound : refused_by (contour_rows xs ns) (gives a) ≡ gives b) where
+  module _ (sound : Passed (contour_rows xs ns)) where
     passed : call ≡ refused_by rows (gives tt)
-    passed = behind ∙ rows_pass (contour_rows xs ns) (rows_give (contour_rows xs ns) _ b sound).0 _
+    passed = behind ∙ rows_pass (contour_rows xs ns) sound _
 
     pub odd_path : (length path ≡ 2 * (length path / 2) → ⊥) → refuses 3 0 ≡ call
     unfolding miscounted_path refused_by pick

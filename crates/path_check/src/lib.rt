@@ -2,21 +2,24 @@
 #![tactic(auto)]
 
 ghost use Rattle.std.specs.Prelude.{◌≡◌, List, [], ◌∷◌, ℕ, ◌+◌, ◌*◌, ◌/◌, ◌≤◌, ◌<◌, length, IfSome, IsNone};
+ghost use Rattle.rules.specs.Limits.{most_contours};
 ghost use Rattle.rules.specs.Tools.{sum, first_failing};
 ghost use Rattle.rules.specs.HandedOver.{Contour, contours_of, gives, refused_by, answer_of, WorkKept};
 ghost use Rattle.statement.specs.PathCheck as rule;
 ghost use Rattle.path_rules.specs.Parts.{TalliedBy, SameWords};
-ghost use Rattle.path_check.specs.Ending.{TellsLeftOut};
+ghost use Rattle.path_check.specs.LeftOut.{TellsLeftOut};
 
-use path_rules::{MarkedPath, UNENTERED, Words};
+use path_rules::{PlatePath, UNENTERED, Words};
 use plate::check_contours;
 use rules::Refusal;
 
 // The words before the first path point, where every contour takes part.
-// It carries `v`, the next contour's first vertex, and takes no `start::contours::Contours`: an empty contour's word is written too, and those leave it out.
+// It carries `v`, the next contour's first vertex, and takes no `contours::Contours`: an empty contour's word is written too, and those leave it out.
 #[tactic(auto, using(crate::specs::Labels::next_end))]
 fn label<'a>(lengths: &[u32], work: &'a mut [u32], total: usize) -> Words<'a>
-    requires { (total ≡ sum lengths.now) × (length lengths.now ≤ 4096) × (total + length lengths.now ≤ length work.old) }
+    requires total { total ≡ sum lengths.now }
+    requires count { length lengths.now ≤ most_contours }
+    requires room { total + length lengths.now ≤ length work.old }
     ensures total { length result.vertices.now ≡ total }
     ensures tallied { (ms : List ℕ) → TalliedBy (contours_of lengths.now) result ms 0 }
 {
@@ -32,7 +35,7 @@ fn label<'a>(lengths: &[u32], work: &'a mut [u32], total: usize) -> Words<'a>
 }
 
 // The first path point that breaks a rule. A `for` and no chain: each point that keeps the rules alters the words that the next is tested by.
-fn first_failing(checked: &mut MarkedPath<'_, '_>) -> Option<usize>
+fn first_failing(checked: &mut PlatePath<'_, '_>) -> Option<usize>
     requires { (length checked.old.marks.now ≡ length checked.old.path.now)
         × (length checked.old.path.now ≡ 2 * (length checked.old.path.now / 2)) }
     ensures same { SameWords checked.old.words checked.new.words }
@@ -72,7 +75,7 @@ fn is_complete(words: &Words<'_>) -> bool
 }
 
 // Refusal 12, over the contours that the work slice's words say.
-pub fn check_division(checked: &mut MarkedPath<'_, '_>) -> Result<(), Refusal>
+pub fn check_division(checked: &mut PlatePath<'_, '_>) -> Result<(), Refusal>
     requires { (length checked.old.marks.now ≡ length checked.old.path.now)
         × (length checked.old.path.now ≡ 2 * (length checked.old.path.now / 2)) }
     ensures same { SameWords checked.old.words checked.new.words }
@@ -109,7 +112,7 @@ pub fn check_path<'a>(
         return Err(Refusal::WorkShort(0));
     }
     let words = label(lengths, work, total);
-    let mut checked = MarkedPath {
+    let mut checked = PlatePath {
         points,
         path,
         marks,

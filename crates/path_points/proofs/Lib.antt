@@ -1,2 +1,2 @@
-pub mod Putting
-pub mod Walking
+pub mod PutPoint
+pub mod WalkBack

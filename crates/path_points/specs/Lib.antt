@@ -1,6 +1,6 @@
 pub mod Wrote
 pub mod Pen
 pub mod Props
-pub mod Writing
-pub mod Drawing
-pub mod Writers
+pub mod WriterState
+pub mod RunParts
+pub mod WriterCalls

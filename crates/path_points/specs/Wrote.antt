@@ -7,11 +7,13 @@ use Rattle.std.specs.Float.{nan}
 use Rattle.std.proofs.Math.ListN.{set, length-append, get_or-append}
 use Rattle.std.proofs.Math.Seq.{take_all, take-append_seam, get_or-append_seam}
 use Rattle.std.proofs.lemmas.List.{take-append-le}
-use Rattle.rules.specs.HandedOver.{at, over}
-use Rattle.rules.specs.RetraceAndMarks.{Step, land, start_kind, vertex_of, coordinates, marks}
-use Rattle.rules.specs.Calls.{vertices}
-use Rattle.path.specs.Pairs.{vertex_old}
-use Rattle.path.specs.Slices.{coordinates_length, vertices_length, coordinates_at, vertices_at}
+use Rattle.rules.specs.HandedOver.{Plate, at, over}
+use Rattle.rules.specs.Retrace.{vertex_of, path_points}
+use Rattle.rules.specs.Marks.{Step, land, start_kind, coordinates, marks, vertices}
+use Rattle.plate_laws.specs.Steps.{vertex_old}
+use Rattle.plate_laws.specs.Slices.{coordinates_length, vertices_length, coordinates_at, vertices_at}
+use Rattle.history.specs.History as history
+use Rattle.history.specs.Points.{points_are}
 use Rattle.slices.specs.Pairs.{pairs, pairs_store}
 
 -- ---- steps as pairs
@@ -66,20 +68,7 @@ module _ (xs : List Float) (steps : List Step) (room count : ℕ) (was path : Li
         marks_room = w.marks_room;
       }
 
-  -- where there is no room for one more
-  pub wrote_over : (s : Step) → room ≤ count → Wrote xs (steps ++ s ∷ []) room (room + 1) was path marked ms
-  wrote_over s h =
-      let c = w.counted in
-      let e = take-append-le room steps (s ∷ []) (omega (arith, c)) in
-      record {
-        counted = omega (arith, c, length-append steps (s ∷ []));
-        points = rw e w.points;
-        kinds = rw e w.kinds;
-        points_room = w.points_room;
-        marks_room = w.marks_room;
-      }
-
-  -- where there is: four stores write it
+  -- where there is room for one more: four stores write it
   module _ (s : Step) (h : count < room) where
     all_steps : List Step
     all_steps = steps ++ s ∷ []
@@ -154,3 +143,12 @@ wrote_at xs steps room count was path marked ms w j l h =
     taken =
         sym (vertex_old (take room steps) (drop room steps) j (omega (arith, length-take room steps)))
         ∙ ap (λ (ss : List Step). vertex_of ss j) (take-append-drop room steps)
+
+-- the points that the history has are those of the steps
+pub points_written : (p : Plate) (steps : List Step) (room count : ℕ) (was path : List Float) (marked ms : List ℕ) →
+    Wrote p.points steps room count was path marked ms → count ≤ room → history.points path count ≡ path_points p steps
+unfolding over
+points_written p steps room count was path marked ms w h =
+    let n : length steps ≡ count = omega (arith, w.counted) in
+    let all = take_all room steps (omega arith) in
+    rw (← n, w.points, all) (points_are p steps (drop (length (coordinates p.points (vertices steps))) was))

@@ -4,8 +4,8 @@
 ghost use Rattle.std.specs.Prelude.{◌≡◌, List, [], ◌∷◌, ◌++◌, ℕ, ◌+◌, ◌*◌, ◌≤◌, ◌<◌, length, take, Float};
 ghost use Rattle.rules.specs.HandedOver.{at};
 ghost use Rattle.rules.specs.Marks.{kind_of, reference_of};
-ghost use Rattle.rules.specs.RetraceAndMarks.{walk_back};
-ghost use Rattle.path.specs.FiniteDistances.{OnPlate};
+ghost use Rattle.rules.specs.Retrace.{walk_back};
+ghost use Rattle.plate_laws.specs.FiniteDistances.{OnPlate};
 ghost use Rattle.path_points.specs.Pen.{Pen};
 ghost use Rattle.path_points.specs.Props.{pen_prop};
 
@@ -31,7 +31,7 @@ pub struct PathWriter<'a> {
 }
 
 impl PathWriter<'_> {
-    ghost use Rattle.path_points.specs.Writing.{reached, SameWriter, Written, Adds};
+    ghost use Rattle.path_points.specs.WriterState.{reached, SameWriter, WriterAfter, Adds};
 
     // The path's points alone, in the order of the path. A count of room + 1 says that the path is full, and the slice may end before it.
     pub fn so_far(&self) -> &[f64]
@@ -56,9 +56,10 @@ impl PathWriter<'_> {
 
     // One more path point.
     pub fn put(&mut self, p: Point, mark: Mark) -> Result<(), Full>
-        requires on_plate { OnPlate p.x × OnPlate p.y }
+        requires x { OnPlate p.x }
+        requires y { OnPlate p.y }
         ensures same { SameWriter self.old self.new }
-        ensures written { Written self.old self.new result }
+        ensures written { WriterAfter self.old self.new result }
         ensures one_more { self.old.count ≤ self.old.room → self.old.count < reached self.old.room self.new.count result }
         ensures adds { (xs : List Float) (v : ℕ) → at xs v ≡ p →
             Adds xs self.old self.new result
@@ -81,7 +82,7 @@ impl PathWriter<'_> {
     pub fn walk_back(&mut self, h: PathPlace) -> Result<(), Full>
         requires behind { self.old.count ≤ self.old.room → h.0 < self.old.count }
         ensures same { SameWriter self.old self.new }
-        ensures written { Written self.old self.new result }
+        ensures written { WriterAfter self.old self.new result }
         ensures adds { (xs : List Float) → Adds xs self.old self.new result (λ steps. steps ++ walk_back steps h.0) }
     {
         if self.room < self.count {

@@ -8,7 +8,7 @@ use lib.Ieee.{Float}
 use borrow.Author.Tests.{eq-eqb, ne_eqb}
 use Rattle.rules.specs.Tools.{pick}
 use Rattle.rules.specs.HandedOver.{Contour, at}
-use Rattle.rules.specs.RetraceAndMarks.{start_kind, cut_kind, back_step_kind, jump_kind, touch_kind, coincide, landing_kind, kind_at, reference_at}
+use Rattle.rules.specs.Marks.{start_kind, cut_kind, back_step_kind, jump_kind, touch_kind, coincide, landing_kind, kind_at, reference_at}
 use Rattle.statement.specs.PathCheck.{lands_fresh, cuts_fresh, reverses, keeps_after, keeps_rules}
 use Rattle.rules.specs.declared.Point.{Point}
 

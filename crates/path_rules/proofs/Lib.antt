@@ -1,5 +1,5 @@
-pub mod Landing
-pub mod Cutting
+pub mod FreshLandings
+pub mod FreshCuts
 pub mod MarkKinds
 pub mod ByKind
-pub mod Tallying
+pub mod NextWords

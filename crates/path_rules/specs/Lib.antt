@@ -1,4 +1,4 @@
-pub mod Tallied
+pub mod PathWords
 pub mod Words
 pub mod Props
 pub mod Parts

@@ -1,7 +1,7 @@
 -- The words in two parts of the work slice: those of the vertices, and behind these those of the contours. Definitions only.
 use Rattle.std.specs.Prelude.{◌≡◌, List, ◌++◌, ℕ, length}
 use Rattle.rules.specs.HandedOver.{Contour}
-use Rattle.path_rules.specs.Tallied.{Tallied}
+use Rattle.path_rules.specs.PathWords.{Tallied}
 use Rattle.path_rules.specs.declared.work.Words.{Words}
 
 abbrev pub words_of : Words → List ℕ

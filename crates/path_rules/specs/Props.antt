@@ -1,7 +1,7 @@
 -- Words are labelled in one way.
 use Rattle.std.specs.Prelude.{ℕ, List}
 use Rattle.std.specs.Coded.{le_prop}
-use Rattle.path_rules.specs.Tallied.{Labelled}
+use Rattle.path_rules.specs.PathWords.{Labelled}
 
 pub labelled_prop : (total : ℕ) (work : List ℕ) → IsProp (Labelled total work)
 labelled_prop total work a b =

@@ -2,9 +2,9 @@
 use Rattle.std.specs.Prelude.{◌≡◌, List, ℕ, ◌+◌, ◌/◌, ◌%◌, ◌≤◌, ◌<◌, get_or}
 use Rattle.std.proofs.Common.{arith}
 use Rattle.rules.specs.HandedOver.{Contour}
-use Rattle.statement.specs.PathStatement.{Among, Of}
-use Rattle.statement.specs.PathCheck.{entries_of, marks_before}
-use Rattle.path_rules.specs.Tallied.{Tallied}
+use Rattle.rules.specs.Contours.{Among, Of}
+use Rattle.rules.specs.Marks.{entries_of, marks_before}
+use Rattle.path_rules.specs.PathWords.{Tallied}
 
 -- the number that vertex v's word names, and the word of the contour with this number
 abbrev pub number_at : List ℕ → ℕ → ℕ

@@ -3,11 +3,10 @@
 
 ghost use Rattle.std.specs.Prelude.{◌≡◌, true, List, ℕ, ◌+◌, ◌*◌, ◌%◌, ◌≤◌, ◌<◌, ◌↔◌, ◌||◌, suc, length, get_or, Float, IsTrue, IsSome, IfSome};
 ghost use Rattle.rules.specs.HandedOver.{Contour, at};
-ghost use Rattle.rules.specs.Marks.{kind_of, reference_of};
-ghost use Rattle.rules.specs.RetraceAndMarks.{kind_at, reference_at};
+ghost use Rattle.rules.specs.Marks.{kind_of, reference_of, kind_at, reference_at};
 ghost use Rattle.rules.specs.declared.Point.{Point};
 ghost use Rattle.statement.specs.PathCheck as rule;
-ghost use Rattle.path_rules.specs.Tallied.{Names};
+ghost use Rattle.path_rules.specs.PathWords.{NamesVertex};
 ghost use Rattle.path_rules.specs.Words.{number_at, contour_word, Open};
 ghost use Rattle.path_rules.specs.Parts.{words_of, TalliedBy, SameWords};
 
@@ -20,7 +19,7 @@ pub use work::{ENTERED, UNENTERED, Words};
 
 // A path that is checked, with the points of its plate.
 #[derive(Drop)]
-pub struct MarkedPath<'a, 'w> {
+pub struct PlatePath<'a, 'w> {
     pub points: &'a [f64],
     pub path: &'a [f64],
     pub marks: &'a [u32],
@@ -86,7 +85,8 @@ impl Words<'_> {
 
     // The words after path point i, which keeps the rules.
     pub fn tally(&mut self, marks: &[u32], i: usize)
-        requires { (2 * i + 1 < length marks.now) × Names (length self.old.vertices.now) marks.now i }
+        requires marked { 2 * i + 1 < length marks.now }
+        requires named { NamesVertex (length self.old.vertices.now) marks.now i }
         ensures same { SameWords self.old self.new }
         ensures tallied { (cs : List Contour) (xs path : List Float) → TalliedBy cs self.old marks.now i →
             rule.keeps_rules cs xs path marks.now i ≡ true → TalliedBy cs self.new marks.now (suc i) }
@@ -108,7 +108,7 @@ impl Words<'_> {
     }
 }
 
-impl MarkedPath<'_, '_> {
+impl PlatePath<'_, '_> {
     // Whether path point i is vertex v, of a contour that is not entered before.
     fn lands_fresh(&self, i: usize, v: Vertex) -> bool
         requires { 2 * i + 1 < length self.now.path.now }
@@ -124,7 +124,8 @@ impl MarkedPath<'_, '_> {
 
     // Whether path points k and k + 1 are the ends of segment v, in one order or the other.
     fn goes_along(&self, k: usize, v: usize) -> bool
-        requires { (2 * k + 3 < length self.now.path.now) × (v + 1 < length self.now.words.vertices.now) }
+        requires pair { 2 * k + 3 < length self.now.path.now }
+        requires segment { v + 1 < length self.now.words.vertices.now }
         ensures { result
             ≡ rule.goes self.now.path.now k (at self.now.points.now v) (at self.now.points.now (suc v))
             || rule.goes self.now.path.now k (at self.now.points.now (suc v)) (at self.now.points.now v) }
@@ -147,10 +148,11 @@ impl MarkedPath<'_, '_> {
 
     // Whether path point i keeps the rules.
     pub fn keeps_rules(&self, i: usize) -> bool
-        requires { (2 * i + 1 < length self.now.path.now) × (2 * i + 1 < length self.now.marks.now) }
+        requires inside { 2 * i + 1 < length self.now.path.now }
+        requires marked { 2 * i + 1 < length self.now.marks.now }
         ensures rules { (cs : List Contour) → TalliedBy cs self.now.words self.now.marks.now i →
             result ≡ rule.keeps_rules cs self.now.points.now self.now.path.now self.now.marks.now i }
-        ensures named { result ≡ true → Names (length self.now.words.vertices.now) self.now.marks.now i }
+        ensures named { result ≡ true → NamesVertex (length self.now.words.vertices.now) self.now.marks.now i }
     {
         let Some(mark) = mark_at(self.marks, i) else {
             return false;
@@ -166,7 +168,8 @@ impl MarkedPath<'_, '_> {
             Mark::Cut(v) => self.cuts_fresh(k, v),
             Mark::BackStep(place) => reverses(self.path, k, place),
             Mark::Jump(v) | Mark::Touch(v) => {
-                mark == landing_mark(point_in(self.path, k), point_in(self.path, i), v)
+                mark.kind()
+                    == landing_mark(point_in(self.path, k), point_in(self.path, i), v).kind()
                     && self.lands_fresh(i, v)
             }
             Mark::Start(_) => false,

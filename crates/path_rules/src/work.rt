@@ -1,7 +1,7 @@
 // The words of the work slice while a path is checked.
 
 ghost use Rattle.std.specs.Prelude.{◌++◌, length};
-ghost use Rattle.path_rules.specs.Tallied.{Labelled};
+ghost use Rattle.path_rules.specs.PathWords.{Labelled};
 ghost use Rattle.path_rules.specs.Props.{labelled_prop};
 
 // A contour's word: 0 where it takes no part, else one of these. It is no enum: it is a number of a slice that the caller lends (no heap).

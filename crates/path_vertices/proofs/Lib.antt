@@ -1,2 +1,2 @@
-pub mod Keeping
-pub mod Tallying
+pub mod VertexRules
+pub mod ReadSteps

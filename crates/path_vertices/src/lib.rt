@@ -2,16 +2,15 @@
 #![tactic(auto)]
 
 ghost use Rattle.std.specs.Prelude.{◌≡◌, true, false, not, ◌&&◌, ◌||◌, List, [], ℕ, suc, ◌-◌, ◌*◌, ◌≤◌, ◌<◌, ◌↔◌, eqb, ltb, length, get_or, IsSome, IsNone, IfSome};
+ghost use Rattle.rules.specs.Limits.{highest_vertex};
 ghost use Rattle.rules.specs.Tools.{pick, first_failing};
 ghost use Rattle.rules.specs.HandedOver.{at};
 ghost use Rattle.rules.specs.Bits.{same_point};
-ghost use Rattle.rules.specs.Marks.{kind_of};
-ghost use Rattle.rules.specs.RetraceAndMarks.{landing_kind};
-ghost use Rattle.statement.specs.PathStatement.{vertices_after};
+ghost use Rattle.rules.specs.Marks.{kind_of, landing_kind, vertices_after};
 ghost use Rattle.contour_recovery.specs.ContourRecovery.{consistent};
 ghost use Rattle.recovery_laws.specs.ByKind as law;
-ghost use Rattle.landings.specs.Holds.{Holds, SameParts};
-ghost use Rattle.path_vertices.specs.Reading.{ReadTo};
+ghost use Rattle.landings.specs.LandedBefore.{LandedBefore, SameParts};
+ghost use Rattle.path_vertices.specs.ReadTo.{ReadTo};
 
 use bits::same_point;
 use landings::Landings;
@@ -27,7 +26,8 @@ pub struct MarkedPath<'a, 'w> {
     pub path: &'a [f64],
     pub marks: &'a [u32],
     pub landings: Landings<'w>,
-    ghost whole: { (length path.now ≡ 2 * length landings.vertices.now) × (length marks.now ≡ 2 * length landings.vertices.now) },
+    ghost paired: { length path.now ≡ 2 * length landings.vertices.now },
+    ghost marked: { length marks.now ≡ 2 * length landings.vertices.now },
 }
 
 impl MarkedPath<'_, '_> {
@@ -49,7 +49,8 @@ impl MarkedPath<'_, '_> {
     // The end of segment v that path point i − 1 doesn't have, where it has the other.
     #[tactic(auto, unfolding(rules::specs::Tools::pick))]
     fn cut_end(&self, i: usize, v: Vertex) -> Option<Vertex>
-        requires { (i < length self.now.landings.vertices.now) × (0 < i → get_or self.now.landings.vertices.now (i - 1) 0 ≤ 65535) }
+        requires inside { i < length self.now.landings.vertices.now }
+        requires within { 0 < i → get_or self.now.landings.vertices.now (i - 1) 0 ≤ highest_vertex }
         ensures from { let before = get_or self.now.landings.vertices.now (i - 1) 0 in
             IsSome result ↔ (not (eqb i 0) && (eqb before v.0 || eqb before (suc v.0)) ≡ true) }
         ensures end { IfSome result (λ u. u.0 ≡ pick (eqb (get_or self.now.landings.vertices.now (i - 1) 0) v.0) (suc v.0) v.0) }
@@ -100,7 +101,8 @@ impl MarkedPath<'_, '_> {
 
     // Path point i's vertex, where it keeps the rules of marks.
     pub fn vertex(&self, i: usize) -> Option<Vertex>
-        requires { (i < length self.now.landings.vertices.now) × ReadTo self.now.landings self.now.path.now self.now.marks.now i }
+        requires inside { i < length self.now.landings.vertices.now }
+        requires read { ReadTo self.now.landings self.now.path.now self.now.marks.now i }
         ensures keeps { IsSome result ↔ (consistent self.now.path.now self.now.marks.now (vertices_after [] self.now.marks.now) i ≡ true) }
         ensures vertex { IfSome result (λ v. v.0 ≡ get_or (vertices_after [] self.now.marks.now) i 0) }
     {
@@ -125,11 +127,12 @@ impl MarkedPath<'_, '_> {
 
     // The words after path point i, which keeps the rules and whose vertex is v.
     fn tally(&mut self, i: usize, v: Vertex)
-        requires { (i < length self.old.landings.vertices.now)
-            × ReadTo self.old.landings self.old.path.now self.old.marks.now i
-            × (consistent self.old.path.now self.old.marks.now (vertices_after [] self.old.marks.now) i ≡ true)
-            × (v.0 ≡ get_or (vertices_after [] self.old.marks.now) i 0) }
-        ensures path { (self.new.path.now ≡ self.old.path.now) × (self.new.marks.now ≡ self.old.marks.now) }
+        requires inside { i < length self.old.landings.vertices.now }
+        requires read { ReadTo self.old.landings self.old.path.now self.old.marks.now i }
+        requires kept { consistent self.old.path.now self.old.marks.now (vertices_after [] self.old.marks.now) i ≡ true }
+        requires vertex { v.0 ≡ get_or (vertices_after [] self.old.marks.now) i 0 }
+        ensures path { self.new.path.now ≡ self.old.path.now }
+        ensures marks { self.new.marks.now ≡ self.old.marks.now }
         ensures same { SameParts self.old.landings self.new.landings }
         ensures read { ReadTo self.new.landings self.old.path.now self.old.marks.now (suc i) }
     {
@@ -143,7 +146,7 @@ impl MarkedPath<'_, '_> {
 
 // Reads path points until one breaks a rule of marks. A `for` and no chain: each point that keeps the rules alters the words that the next is tested by.
 pub fn first_inconsistent(marked: &mut MarkedPath<'_, '_>) -> Option<usize>
-    requires { Holds marked.old.landings (λ v. false) 0 }
+    requires { LandedBefore marked.old.landings (λ v. false) 0 }
     ensures same { SameParts marked.old.landings marked.new.landings }
     ensures count { length marked.new.landings.vertices.now ≡ length marked.old.landings.vertices.now }
     ensures found { let ms = marked.old.marks.now in

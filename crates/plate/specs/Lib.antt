@@ -1,5 +1,5 @@
 pub mod Answer
-pub mod Reading
-pub mod Counted
+pub mod SumsAndSearches
+pub mod PassedCounts
 pub mod Props
 pub mod Sound

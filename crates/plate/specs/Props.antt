@@ -4,9 +4,9 @@ use Rattle.std.proofs.Math.Nat.{ℕ_set}
 use Rattle.std.specs.Coded.{×_prop, Unit-prop, le_prop}
 use Rattle.std.proofs.Math.Dec.{T_prop}
 use Rattle.rules.specs.HandedOver.{in_range, plate_limit}
-use Rattle.path.specs.Lists.{All}
-use Rattle.path.specs.FiniteDistances.{OnPlate}
-use Rattle.path.specs.Accepted.{Accepted}
+use Rattle.plate_laws.specs.Lists.{All}
+use Rattle.plate_laws.specs.FiniteDistances.{OnPlate}
+use Rattle.plate_laws.specs.Accepted.{Accepted}
 
 pub on_plate_prop : (xs : List Float) → IsProp (All OnPlate xs)
 on_plate_prop [] = Unit-prop

@@ -1,9 +1,11 @@
 // The input checks that the calls share: refusals 1 to 3, 13 and 4, in their order, the parked point's 4 before the contours'.
 #![tactic(auto)]
 
-ghost use Rattle.std.specs.Prelude.{◌≡◌, ◌≤◌, ◌<◌, length, [], ◌∷◌, IfOk, IfSome, IsNone};
+ghost use Rattle.std.specs.Prelude.{◌≡◌, ◌*◌, ◌≤◌, ◌<◌, length, [], ◌∷◌, IfOk, IfSome, IsNone};
+ghost use Rattle.rules.specs.Limits.{most_contours, most_path_points};
 ghost use Rattle.rules.specs.Tools.{sum};
-ghost use Rattle.rules.specs.HandedOver.{answer_of, gives, in_range, first_off, first_bad, refused_by, bad_layer_count, bad_layer, out_of_range, off_the_plate, contour_rows, parked_coordinates, plate_rows, plate_of};
+ghost use Rattle.rules.specs.HandedOver.{answer_of, gives, in_range, first_off, first_bad, refused_by, out_of_range, off_the_plate};
+ghost use Rattle.rules.specs.HandedOver.{bad_layer_count, bad_layer, contour_rows, parked_coordinates, plate_rows, plate_of};
 ghost use Rattle.plate.specs.Answer.{count_rows};
 ghost use Rattle.plate.specs.Sound.{counted};
 
@@ -29,7 +31,7 @@ pub fn in_range(limit: f64, x: f64) -> bool
 
 // The sum of the lengths: 4,096 of them cannot wrap a u64.
 fn point_count(lengths: &[u32]) -> u64
-    requires { length lengths.now ≤ 4096 }
+    requires { length lengths.now ≤ most_contours }
     ensures { result ≡ sum lengths.now }
 {
     lengths.iter().map(|&n| u64::from(n)).sum()
@@ -72,7 +74,7 @@ fn check_counts(points: &[f64], lengths: &[u32]) -> Result<u32, Refusal>
 
 // Refusal 4, of numbers whose places fit 32 bits.
 pub fn check_range(limit: f64, numbers: &[f64]) -> Result<(), Refusal>
-    requires { length numbers.now ≤ 2097152 }
+    requires { length numbers.now ≤ 2 * most_path_points }
     ensures { answer_of result ≡ refused_by (out_of_range limit numbers.now ∷ []) (gives tt) }
 {
     match first_off(limit, numbers) {
@@ -96,7 +98,7 @@ fn check_parked(strategy: StartPointStrategy) -> Result<(), Refusal>
 // Refusal 13, of the layers of at most 4,096 contours.
 #[tactic(auto, unfolding(rules::specs::Tools::pick, rules::specs::HandedOver::answer_of, rules::specs::HandedOver::number_of, rules::specs::HandedOver::place_of, rules::specs::HandedOver::refusal, rules::specs::HandedOver::refused_by, rules::specs::HandedOver::bad_layer_count, rules::specs::HandedOver::bad_layer))]
 fn check_layers(contours: usize, layers: &[u32]) -> Result<(), Refusal>
-    requires { contours ≤ 4096 }
+    requires { contours ≤ most_contours }
     ensures { answer_of result ≡ refused_by (bad_layer_count contours layers.now ∷ bad_layer layers.now ∷ []) (gives tt) }
 {
     if layers.len() != contours {

@@ -3,10 +3,10 @@
 
 ghost use Rattle.std.specs.Prelude.{◌≡◌, ◌+◌, ◌*◌, ◌/◌, ◌≤◌, length};
 ghost use Rattle.rules.specs.HandedOver.{answer_of, gives, over};
-ghost use Rattle.path.specs.Lists.{All};
+ghost use Rattle.plate_laws.specs.Lists.{All};
 ghost use Rattle.little_endian.specs.Numbers.{NoNan};
 ghost use Rattle.file_format.specs.PlateFile.{write_file, read_file, coordinates_of, write_call, read_call};
-ghost use Rattle.file_laws.specs.Counting.{counted};
+ghost use Rattle.file_laws.specs.PointCounts.{counted};
 
 use file_block::{count_in, is_sound, write_block};
 use file_format::{BLOCK_BYTES, BLOCK_POINTS, PLACES_AT};

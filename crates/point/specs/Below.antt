@@ -1,17 +1,17 @@
 -- A float below the rounded square of x is not above the exact square, and so its sum with z is not above x * x + z, rounded once.
 -- Assumes nothing.
-use Rattle.std.specs.Prelude.{◌≡◌, refl, Bool, true, false, not, ℕ, ◌+◌, ◌*◌, ◌/◌, ◌%◌, ◌≤◌, ◌<◌, T, ℤ, Float}
+use Rattle.std.specs.Prelude.{◌≡◌, refl, true, false, not, ℕ, ◌+◌, ◌*◌, ◌/◌, ◌%◌, ◌≤◌, ◌<◌, T, ℤ, Float}
 use Rattle.std.proofs.Common.{mul-pos, mul-le-mul_right, lt_of_lt_of_le, arith, pow_mono, shl_lt}
 use Rattle.std.proofs.Math.Decide.{dec_lt, ℕ_discrete}
 use Rattle.std.specs.Float.{nan, inf, fin, Format, binary64}
-use Rattle.std.specs.Float.Ieee.{up, down, unlike, round, sum, add, mul, lt, le, fits, is_nan, to_bits}
+use Rattle.std.specs.Float.Ieee.{up, down, round, sum, add, mul, lt, le, fits, is_nan, to_bits}
 use Rattle.std.specs.Float.Ieee.Exact.{HasValue, round_exact}
 use Rattle.std.specs.Float.Ieee.Fits.{down_pos}
 use Rattle.std.specs.Float.Ieee.Order.{le_of_values, round_mono}
 use Rattle.rounding.specs.Magnitude.{IsMagnitude, subnormal_magnitude, normal_magnitude}
 use Rattle.rules.specs.Distances.{mul_add}
-use Rattle.point.specs.Squares.{unsigned, rounded}
-use Rattle.point.specs.Unsigned.{round_unsigned}
+use Rattle.plate_laws.specs.FiniteDistances.{unlike_self}
+use Rattle.point.specs.Squares.{unsigned, rounded, round_unsigned}
 use Rattle.point.specs.Order.{infinity_top, lt_turned, lt_le_trans}
 
 -- ---- a number of the format: rounding does not change it, and where it is below a rounded fraction it is not above the fraction
@@ -58,10 +58,6 @@ AtMostSquare (fin true n d) x = ⊥
 AtMostSquare (fin false n d) nan = ⊥
 AtMostSquare (fin false n d) (inf s) = Unit {0}
 AtMostSquare (fin false n d) (fin s m e) = n * up d * (down e * down e) ≤ m * up e * (m * up e) * down d
-
-unlike_self : (s : Bool) → unlike s s ≡ false
-unlike_self true = refl
-unlike_self false = refl
 
 pub below_square : (y x : Float) → T (fits binary64 y) → T (unsigned y) → T (lt y (mul binary64 x x)) → AtMostSquare y x
 unfolding lt mul

@@ -3,6 +3,7 @@
 -- Assumes nothing.
 use Rattle.std.specs.Prelude.{◌≡◌, refl, Bool, true, false, not, ◌&&◌, T, negsuc, Float}
 use Rattle.std.proofs.lemmas.Bool.{false≢true}
+use Rattle.std.proofs.lemmas.Float.{T_from_true}
 use Rattle.std.specs.Float.{nan, inf, fin, Format, binary64}
 use Rattle.std.specs.Float.Ieee.{add, sub, mul, lt, eq, fits, is_nan}
 use Rattle.std.specs.Float.Ieee.Bits.{is_true}
@@ -10,7 +11,7 @@ use Rattle.std.specs.Float.Ieee.Fits.{mul-fits}
 use Rattle.rules.specs.Distances.{mul_add, distance_squared}
 use Rattle.rules.specs.declared.Point.{Point}
 use Rattle.point.specs.Squares.{unsigned, mul_unsigned, mul_add_unsigned}
-use Rattle.point.specs.Unsigned.{add_unsigned, product_unsigned}
+use Rattle.point.specs.UnsignedSums.{add_unsigned, product_unsigned}
 use Rattle.point.specs.Order.{not_below_nan, lt_turned, lt_not_eq, lt_le_trans}
 use Rattle.point.specs.Below.{below_square, sum_at_most}
 
@@ -33,9 +34,6 @@ point_beyond p q best = sum_above (sub binary64 p.x q.x) (sub binary64 p.y q.y) 
 
 -- ---- what is below the bound is below the sum
 
-holds : (b : Bool) → b ≡ true → T b
-holds b h = rw h tt
-
 -- a sum that is above something is none with NaN
 no_nan : (f : Format) (y z best : Float) → T (lt best (add f y z)) → T (not (is_nan z))
 unfolding add is_nan
@@ -50,8 +48,8 @@ no_nan f (fin s m e) (fin t n d) best h = tt
 pub below_bound : (y x z best : Float) → T (fits binary64 y) → T (unsigned y) → T (unsigned z) →
     lt y (mul binary64 x x) ≡ true → lt best (add binary64 y z) ≡ true → lt best (mul_add binary64 x x z) ≡ true
 below_bound y x z best fy uy uz hy hb =
-    let l = holds (lt best (add binary64 y z)) hb in
-    let under = below_square y x fy uy (holds (lt y (mul binary64 x x)) hy) in
+    let l = T_from_true _ hb in
+    let under = below_square y x fy uy (T_from_true _ hy) in
     is_true (lt best (mul_add binary64 x x z))
     (lt_le_trans best (add binary64 y z) (mul_add binary64 x x z) (add_unsigned binary64 y z uy uz) (mul_add_unsigned binary64 x z uz) l
     (sum_at_most binary64 y x z under uz (no_nan binary64 y z best l)))
@@ -83,7 +81,7 @@ beyond_above p q best = passes (sub binary64 p.x q.x) (sub binary64 p.y q.y) bes
 -- ---- for a caller that keeps the best
 
 pub above_not_below : (best d : Float) → lt best d ≡ true → lt d best ≡ false
-above_not_below best d h = lt_turned best d (holds (lt best d) h)
+above_not_below best d h = lt_turned best d (T_from_true _ h)
 
 pub above_not_equal : (best d : Float) → lt best d ≡ true → eq d best ≡ false
-above_not_equal best d h = lt_not_eq best d (holds (lt best d) h)
+above_not_equal best d h = lt_not_eq best d (T_from_true _ h)

@@ -9,6 +9,7 @@ use Rattle.std.specs.Float.Ieee.{up, down, below, level, lt, eq, le}
 use Rattle.std.specs.Float.Ieee.Bits.{is_true}
 use Rattle.std.specs.Float.Ieee.Fits.{down_pos}
 use Rattle.rounding.specs.Compare.{at_most}
+use Rattle.plate_laws.specs.FloatOrder.{cross}
 use Rattle.point.specs.Squares.{unsigned}
 
 -- ---- nothing is above the infinity, and nothing is below NaN
@@ -70,10 +71,6 @@ lt_not_eq (fin s m e) (inf false) h = refl
 lt_not_eq (fin s m e) (fin t n d) h = below_level s (m * up e * down d) t (n * up d * down e) h
 
 -- ---- x < y and y ≤ z give x < z
-
--- of a / p, b / q and c / r
-cross : (a b c p q r : ℕ) → 0 < r → a * q < b * p → b * r ≤ c * q → a * r < c * p
-cross a b c p q r R h k = lt_of_mul-lt-mul_right q (omega (arith, mul-lt-mul_of_pos_right h R, mul-le-mul_right p k))
 
 -- of - a / p, b / q and c / r
 cross_negative : (a b c p q r : ℕ) → 0 < r → 0 < a * q + b * p → b * r ≤ c * q → 0 < a * r + c * p

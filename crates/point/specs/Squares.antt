@@ -42,7 +42,7 @@ unsigned_number m e = tt
 abbrev Unsigned : Float → Type 0
 Unsigned x = T (unsigned x)
 
-round_unsigned : (f : Format) (num den : ℕ) → T (unsigned (round f false num den))
+pub round_unsigned : (f : Format) (num den : ℕ) → T (unsigned (round f false num den))
 round_unsigned = rounded Unsigned tt unsigned_number
 
 -- ---- a square, and a square added to something that is not negative

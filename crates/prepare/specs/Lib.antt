@@ -1,6 +1,5 @@
-pub mod Holds
-pub mod Prepared
-pub mod Staying
+pub mod PreparedSlices
+pub mod SlicesKept
 pub mod Marks
 pub mod Reset
-pub mod Framed
+pub mod FrameSlices

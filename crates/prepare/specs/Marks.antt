@@ -1,9 +1,9 @@
 -- The samples of all contours, marked in their part of the slice. Definitions only.
 use Rattle.std.specs.Prelude.{ℕ, ◌≤◌, ◌<◌, List, Float}
 use Rattle.rules.specs.HandedOver.{contours_from}
-use Rattle.path.specs.Lists.{All}
-use Rattle.layout.specs.Parts.{from, KeptBelow, KeptFrom}
-use Rattle.layout.specs.declared.Layout.{Layout}
+use Rattle.plate_laws.specs.Lists.{All}
+use Rattle.work_layout.specs.Parts.{from, KeptBelow, KeptFrom}
+use Rattle.work_layout.specs.declared.Layout.{Layout}
 use Rattle.samples.specs.Owners.{OwnedBy}
 
 -- s is the resolution; nothing but owners is altered

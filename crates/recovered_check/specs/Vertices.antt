@@ -1,21 +1,20 @@
 -- Path points that keep the rules of marks: how each pair of neighbours goes from vertex to vertex, that each path point's vertex is landed on there or before,
 -- and that its point is the one landed on. Assumes nothing.
-use Rattle.std.specs.Prelude.{◌≡◌, refl, ◌⊎◌, Bool, true, false, ◌&&◌, ◌||◌, List, [], ℕ, zero, suc, ◌-◌, ◌*◌, ◌≤◌, ◌<◌, T, eqb, length, get_or, Float}
-use Rattle.std.proofs.Common.{sym, ◌∙◌, inl, inr, arith, eqb-true, eq-eqb}
+use Rattle.std.specs.Prelude.{◌≡◌, refl, ◌⊎◌, Bool, true, false, ◌||◌, List, [], ℕ, zero, suc, ◌-◌, ◌*◌, ◌≤◌, ◌<◌, eqb, length, get_or, Float}
+use Rattle.std.proofs.Common.{sym, ◌∙◌, inl, inr, arith, eqb-true}
 use Rattle.rules.specs.Tools.{pick}
 use Rattle.rules.specs.HandedOver.{at}
 use Rattle.rules.specs.Bits.{same_point}
-use Rattle.rules.specs.RetraceAndMarks.{start_kind, cut_kind, back_step_kind, touch_kind, landing_kind, kind_at, reference_at}
-use Rattle.statement.specs.PathStatement.{vertices_after, BackStep, JumpOrTouch, IsJumpOrTouch}
-use Rattle.statement.specs.PathCheck.{enters}
+use Rattle.rules.specs.Marks.{start_kind, cut_kind, back_step_kind, touch_kind, landing_kind, kind_at, reference_at, vertices_after}
+use Rattle.statement.specs.Division.{BackStep, JumpOrTouch, IsJumpOrTouch}
 use Rattle.contour_recovery.specs.ContourRecovery.{lands_on, landed, consistent, vertex_count, landing_place, recovered_points}
-use Rattle.path.specs.Entering.{kind_tells}
-use Rattle.division.specs.SameBits.{says_point}
-use Rattle.division.specs.ByPoints.{start_enters, landing_enters}
+use Rattle.division_laws.specs.Maps.{kind_tells}
+use Rattle.division_laws.specs.SameBits.{says_point}
+use Rattle.division.specs.Kinds.{start_enters, landing_enters}
 use Rattle.recovery_laws.specs.Vertices.{vertex_landed, vertex_cut, vertex_back}
 use Rattle.recovery_laws.specs.ByKind.{start_rule, cut_rule, back_rule, landing_rule, rule_known}
 use Rattle.recovery_laws.specs.Points.{point_at}
-use Rattle.recovery_laws.specs.Landed.{landed_at, at_landed, count_above, landing_place_is}
+use Rattle.recovery_laws.specs.Landed.{entry_lands, cut_lands, landed_at, at_landed, count_above, landing_place_is}
 
 -- each kind that a mark may have
 kind_case : (kind : ℕ) → kind ≤ touch_kind → (kind ≡ start_kind) ⊎ (kind ≡ cut_kind) ⊎ (kind ≡ back_step_kind) ⊎ IsJumpOrTouch kind
@@ -37,8 +36,12 @@ cut_ends a b r e h = go (eqb a r) refl (eqb a (suc r)) refl e h
     go false x true y e h = inr (eqb-true a (suc r) y, h)
     go false x false y e h = absurd (grind (arith, e))
 
-module _ (path : List Float) (ms : List ℕ) (n : ℕ) (whole : length ms ≡ 2 * n)
-    (kept : (i : ℕ) → i < n → consistent path ms (vertices_after [] ms) i ≡ true) where
+-- n path points that keep the rules of marks
+pub record MarksKept (path : List Float) (ms : List ℕ) (n : ℕ) : Type 0 where
+  pub whole : length ms ≡ 2 * n
+  pub rules : (i : ℕ) → i < n → consistent path ms (vertices_after [] ms) i ≡ true
+
+module _ {path : List Float} {ms : List ℕ} {n : ℕ} (kept : MarksKept path ms n) where
   abbrev vs : List ℕ
   vs = vertices_after [] ms
 
@@ -48,22 +51,22 @@ module _ (path : List Float) (ms : List ℕ) (n : ℕ) (whole : length ms ≡ 2 
   -- ---- pairs of neighbours
 
   pub start : 0 < n → (kind_at ms 0 ≡ start_kind) × (v 0 ≡ reference_at ms 0)
-  start l = go (kind_case (kind_at ms 0) (rule_known path ms vs 0 (kept 0 l)))
+  start l = go (kind_case (kind_at ms 0) (rule_known path ms vs 0 (kept.rules 0 l)))
     where
       go : (kind_at ms 0 ≡ start_kind) ⊎ (kind_at ms 0 ≡ cut_kind) ⊎ (kind_at ms 0 ≡ back_step_kind) ⊎ IsJumpOrTouch (kind_at ms 0) →
           (kind_at ms 0 ≡ start_kind) × (v 0 ≡ reference_at ms 0)
-      go (inl e) = (e, vertex_landed ms n 0 whole l (λ f. omega (arith, e, f)) (λ f. omega (arith, e, f)))
-      go (inr (inl e)) = absurd (grind (arith, sym (cut_rule path ms vs 0 e) ∙ kept 0 l))
-      go (inr (inr (inl e))) = absurd (grind (arith, sym (back_rule path ms vs 0 e) ∙ kept 0 l))
-      go (inr (inr (inr j))) = absurd (grind (arith, sym (landing_rule path ms vs 0 j) ∙ kept 0 l))
+      go (inl e) = (e, vertex_landed ms n 0 kept.whole l (λ f. omega (arith, e, f)) (λ f. omega (arith, e, f)))
+      go (inr (inl e)) = absurd (grind (arith, sym (cut_rule path ms vs 0 e) ∙ kept.rules 0 l))
+      go (inr (inr (inl e))) = absurd (grind (arith, sym (back_rule path ms vs 0 e) ∙ kept.rules 0 l))
+      go (inr (inr (inr j))) = absurd (grind (arith, sym (landing_rule path ms vs 0 j) ∙ kept.rules 0 l))
 
   -- path points k and k + 1 are the two ends of segment r
   abbrev pub CutEnds : ℕ → ℕ → Type 0
   CutEnds k r = ((v k ≡ r) × (v (suc k) ≡ suc r)) ⊎ ((v k ≡ suc r) × (v (suc k) ≡ r))
 
   -- path points k and k + 1, the mark of path point k + 1 having this kind and the reference r
-  abbrev pub Goes : ℕ → ℕ → ℕ → Type 0
-  Goes k kind r =
+  abbrev pub VertexPair : ℕ → ℕ → ℕ → Type 0
+  VertexPair k kind r =
       ((kind ≡ cut_kind) × CutEnds k r)
       ⊎ ((kind ≡ back_step_kind) × BackStep v k r × (at path (suc k) ≡ at path r))
       ⊎ (JumpOrTouch (at path k) (at path (suc k)) kind × (v (suc k) ≡ r))
@@ -80,84 +83,72 @@ module _ (path : List Float) (ms : List ℕ) (n : ℕ) (whole : length ms ≡ 2 
 
     pub goes_cut : kind ≡ cut_kind → CutEnds k r
     goes_cut e =
-        let rule = rw back at (sym (cut_rule path ms vs (suc k) e) ∙ kept (suc k) l) in
-        let named = rw back at (vertex_cut ms n (suc k) whole l e (omega arith)) in
+        let rule = rw back at (sym (cut_rule path ms vs (suc k) e) ∙ kept.rules (suc k) l) in
+        let named = rw back at (vertex_cut ms n (suc k) kept.whole l e (omega arith)) in
         cut_ends (v k) (v (suc k)) r (grind (arith, rule)) named
 
     goes_back : kind ≡ back_step_kind → BackStep v k r × (at path (suc k) ≡ at path r)
     goes_back e =
-        let rule = rw back at (sym (back_rule path ms vs (suc k) e) ∙ kept (suc k) l) in
+        let rule = rw back at (sym (back_rule path ms vs (suc k) e) ∙ kept.rules (suc k) l) in
         let same : same_point (at path (suc k)) (at path r) ≡ true = grind (arith, rule) in
         let before : suc r < suc k = grind (arith, rule) in (
           record {
             earlier = omega (arith, before);
             from = eqb-true (v k) (v (suc r)) (grind (arith, rule));
-            to = vertex_back ms n (suc k) whole l e (omega (arith, before));
+            to = vertex_back ms n (suc k) kept.whole l e (omega (arith, before));
           },
           (says_point (at path (suc k)) (at path r)).tells (rw same tt),
         )
 
     goes_landing : IsJumpOrTouch kind → JumpOrTouch (at path k) (at path (suc k)) kind × (v (suc k) ≡ r)
     goes_landing j =
-        let rule = rw back at (sym (landing_rule path ms vs (suc k) j) ∙ kept (suc k) l) in
+        let rule = rw back at (sym (landing_rule path ms vs (suc k) j) ∙ kept.rules (suc k) l) in
         let named : kind ≡ landing_kind (at path k) (at path (suc k)) = eqb-true _ _ (grind (arith, rule)) in (
           rw named (kind_tells (at path k) (at path (suc k))),
-          vertex_landed ms n (suc k) whole l
+          vertex_landed ms n (suc k) kept.whole l
               (λ e. elim j [ inl f ↦ omega (arith, e, f) | inr f ↦ omega (arith, e, f) ])
               (λ e. elim j [ inl f ↦ omega (arith, e, f) | inr f ↦ omega (arith, e, f) ]),
         )
 
-    pub goes : Goes k kind r
-    goes = go (kind_case kind (rule_known path ms vs (suc k) (kept (suc k) l)))
+    pub goes : VertexPair k kind r
+    goes = go (kind_case kind (rule_known path ms vs (suc k) (kept.rules (suc k) l)))
       where
-        go : (kind ≡ start_kind) ⊎ (kind ≡ cut_kind) ⊎ (kind ≡ back_step_kind) ⊎ IsJumpOrTouch kind → Goes k kind r
-        go (inl e) = absurd (grind (arith, sym (start_rule path ms vs (suc k) e) ∙ kept (suc k) l))
+        go : (kind ≡ start_kind) ⊎ (kind ≡ cut_kind) ⊎ (kind ≡ back_step_kind) ⊎ IsJumpOrTouch kind → VertexPair k kind r
+        go (inl e) = absurd (grind (arith, sym (start_rule path ms vs (suc k) e) ∙ kept.rules (suc k) l))
         go (inr (inl e)) = inl (e, goes_cut e)
         go (inr (inr (inl e))) = let (b, p) = goes_back e in inr (inl (e, b, p))
         go (inr (inr (inr j))) = inr (inr (goes_landing j))
 
   -- ---- landings
 
-  pub lands_entry : (i : ℕ) → T (enters (kind_at ms i)) → lands_on ms vs (v i) i ≡ true
-  unfolding lands_on
-  lands_entry i t = rw (eq-eqb (v i) (v i) refl) (go (enters (kind_at ms i)) t)
-    where
-      go : (b : Bool) → T b → (b || eqb (kind_at ms i) cut_kind) && true ≡ true
-      go true t = refl
-      go false t = absurd t
-
-  pub lands_cut : (i : ℕ) → kind_at ms i ≡ cut_kind → lands_on ms vs (v i) i ≡ true
-  unfolding lands_on
-  lands_cut i e = rw (eq-eqb (v i) (v i) refl, e, eq-eqb cut_kind cut_kind refl) (grind arith)
-
   pub later : (u a b : ℕ) → a ≤ b → landed ms vs a u ≡ true → landed ms vs b u ≡ true
   later u a b h e = let (j, l, t) = landed_at ms vs u a e in at_landed ms vs u b j (omega (arith, l, h)) t
 
   -- path point i has a vertex that it, or one before it, lands on, and has the point of the one that does
-  abbrev Met : ℕ → Type 0
-  Met i = (landed ms vs (suc i) (v i) ≡ true) × (at path i ≡ at path (landing_place ms vs n (v i)))
+  abbrev HasLanding : ℕ → Type 0
+  HasLanding i = (landed ms vs (suc i) (v i) ≡ true) × (at path i ≡ at path (landing_place ms vs n (v i)))
 
-  here : (i : ℕ) → i < n → lands_on ms vs (v i) i ≡ true → Met i
-  here i l e = (at_landed ms vs (v i) (suc i) i (omega arith) e, rw (landing_place_is ms vs path n kept i (v i) l e) refl)
+  here : (i : ℕ) → i < n → lands_on ms vs (v i) i ≡ true → HasLanding i
+  here i l e = (at_landed ms vs (v i) (suc i) i (omega arith) e, rw (landing_place_is ms vs path n kept.rules i (v i) l e) refl)
 
-  met_step : (k : ℕ) → suc k < n → ((j : ℕ) → j ≤ k → Met j) → Met (suc k)
+  met_step : (k : ℕ) → suc k < n → ((j : ℕ) → j ≤ k → HasLanding j) → HasLanding (suc k)
   met_step k l before = go (goes k l)
     where
       r : ℕ
       r = reference_at ms (suc k)
 
-      go : Goes k (kind_at ms (suc k)) r → Met (suc k)
-      go (inl (e, x)) = here (suc k) l (lands_cut (suc k) e)
+      go : VertexPair k (kind_at ms (suc k)) r → HasLanding (suc k)
+      go (inl (e, x)) = here (suc k) l (cut_lands ms vs (suc k) e)
       go (inr (inl (e, x, same))) =
           let h = x.earlier in
           let (m, p) = before r (omega (arith, h)) in
           (later (v (suc k)) (suc r) (suc (suc k)) (omega (arith, h)) (rw x.to m), same ∙ p ∙ rw x.to refl)
-      go (inr (inr (j, e))) = here (suc k) l (lands_entry (suc k) (landing_enters _ _ (kind_at ms (suc k)) j))
+      go (inr (inr (j, e))) = here (suc k) l (entry_lands ms vs (suc k) (landing_enters _ _ j))
 
   -- b counts down
-  met : (b i : ℕ) → i < b → i < n → Met i
+  met : (b i : ℕ) → i < b → i < n → HasLanding i
   met zero i h l = absurd (omega (arith, h))
-  met (suc b) zero h l = here 0 l (lands_entry 0 (start_enters (kind_at ms 0) (start l).0))
+  met (suc b) zero h l = here 0 l (entry_lands ms vs 0 (start_enters (start l).0))
   met (suc b) (suc k) h l = met_step k l (λ j x. met b j (omega (arith, x, h)) (omega (arith, x, l)))
 
   pub vertex_met : (i : ℕ) → i < n → landed ms vs (suc i) (v i) ≡ true

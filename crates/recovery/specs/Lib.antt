@@ -1,5 +1,5 @@
 pub mod Parts
 pub mod Rows
-pub mod Counted
-pub mod Reading
+pub mod VertexPlaces
+pub mod ReadPath
 pub mod Outcome

@@ -6,8 +6,8 @@ use Rattle.rules.specs.HandedOver.{Answer, gives, refuses, RefusalRow, refused_b
 use Rattle.rules.specs.declared.Recovered.{Recovered}
 use Rattle.rules.specs.declared.RecoveryRefusal.{RecoveryRefusal}
 use Rattle.rules.specs.declared.RecoveryRefusal.TheVariants.{PathMiscounted, PathOffThePlate, PathWorkShort, MarksInconsistent, VertexMissing, NoRoom}
-use Rattle.statement.specs.PathStatement.{vertices_after}
-use Rattle.path.specs.Rows.{Passed, rows_pass}
+use Rattle.rules.specs.Marks.{vertices_after}
+use Rattle.plate_laws.specs.Rows.{Passed, rows_pass}
 use Rattle.slices.specs.Outcome.{work_same}
 use Rattle.contour_recovery.specs.ContourRecovery.{vertex_count, recovered_points, recovered_lengths, marks_inconsistent, vertex_missing, RecoveryOutcome, recovery_call, recovery_answer}
 use Rattle.recovery_parts.specs.Outcome.{roomy}
@@ -58,8 +58,8 @@ module _ (path : List Float) (ms : List ℕ) (points : List Float) (lengths : Li
   given = gives (record { points = m; contours = length ns })
 
   -- an answer, the two output slices afterwards, and the work slice before and afterwards
-  abbrev pub Met : Answer Recovered → List Float → List ℕ → List ℕ → List ℕ → Type 0
-  Met a ps ls before now = (a ≡ call.answer) × (ps ≡ call.points) × (ls ≡ call.lengths) × WorkKept call.answer before now
+  abbrev pub MetRecovery : Answer Recovered → List Float → List ℕ → List ℕ → List ℕ → Type 0
+  MetRecovery a ps ls before now = (a ≡ call.answer) × (ps ≡ call.points) × (ls ≡ call.lengths) × WorkKept call.answer before now
 
   -- the rows behind those of the path
   abbrev behind : Answer Recovered
@@ -70,12 +70,12 @@ module _ (path : List Float) (ms : List ℕ) (points : List Float) (lengths : Li
   parts = refl
 
   refused : (r : RecoveryRefusal) → recovery_answer (Err r) ≡ call.answer → (before now : List ℕ) → WorkKept call.answer before now →
-      Met (recovery_answer (Err r)) points lengths before now
+      MetRecovery (recovery_answer (Err r)) points lengths before now
   unfolding recovery_call
   refused r e before now k = (e, rw (← e) (same_written r xs points), rw (← e) (same_written r ns lengths), k)
 
   pub met_unfit : (r : RecoveryRefusal) → ((later : Answer Recovered) → recovery_answer (Err r) ≡ refused_by (path_rows path ms w) later) →
-      (work : List ℕ) → Met (recovery_answer (Err r)) points lengths work work
+      (work : List ℕ) → MetRecovery (recovery_answer (Err r)) points lengths work work
   met_unfit r e work = refused r (e behind ∙ sym parts) work work (work_same call.answer work)
 
   module _ (passed : Passed (path_rows path ms w)) where
@@ -94,7 +94,7 @@ module _ (path : List Float) (ms : List ℕ) (points : List Float) (lengths : Li
     frees_call before now = rw after_path (frees before now)
 
     pub met_inconsistent : (r : RecoveryRefusal) → ((later : Answer Recovered) → recovery_answer (Err r) ≡ refused_by (mark_rows path ms) later) →
-        (before now : List ℕ) → Met (recovery_answer (Err r)) points lengths before now
+        (before now : List ℕ) → MetRecovery (recovery_answer (Err r)) points lengths before now
     met_inconsistent r e before now = refused r (e _ ∙ sym after_path) before now (frees_call before now)
 
     module _ (whole : length vs ≡ n) (kept : Passed (mark_rows path ms)) where
@@ -102,7 +102,7 @@ module _ (path : List Float) (ms : List ℕ) (points : List Float) (lengths : Li
       after_marks = after_path ∙ rows_pass (mark_rows path ms) kept _ ∙ rw whole refl
 
       pub met_missing : (r : RecoveryRefusal) → ((later : Answer Recovered) → recovery_answer (Err r) ≡ refused_by (vertex_rows ms vs) later) →
-          (before now : List ℕ) → Met (recovery_answer (Err r)) points lengths before now
+          (before now : List ℕ) → MetRecovery (recovery_answer (Err r)) points lengths before now
       met_missing r e before now = refused r (e _ ∙ sym after_marks) before now (frees_call before now)
 
       -- `us` are the vertices that were read, and k is how many were landed on
@@ -110,7 +110,7 @@ module _ (path : List Float) (ms : List ℕ) (points : List Float) (lengths : Li
           let r = roomy path ms us (length us) k (length points) (length lengths) in
           (a : Answer Recovered) (ps : List Float) (ls : List ℕ) →
           a ≡ r → ps ≡ written r (recovered_points path ms us (length us) k) points → ls ≡ written r (recovered_lengths ms k) lengths →
-          (before now : List ℕ) → Met a ps ls before now
+          (before now : List ℕ) → MetRecovery a ps ls before now
       unfolding recovery_call roomy
       met_written all us same k count a ps ls e p l before now =
           let told : call.answer ≡ refused_by room_rows given = after_marks ∙ rows_pass (vertex_rows ms vs) all _ in (

@@ -1,7 +1,7 @@
 -- The rows that the parts of the call test. Definitions only.
 use Rattle.std.specs.Prelude.{List, [], ◌∷◌, ℕ, ◌*◌, ◌/◌, Float, length}
 use Rattle.rules.specs.HandedOver.{RefusalRow, off_the_plate, work_short}
-use Rattle.statement.specs.PathStatement.{vertices_after}
+use Rattle.rules.specs.Marks.{vertices_after}
 use Rattle.statement.specs.PathCheck.{miscounted_path}
 use Rattle.contour_recovery.specs.ContourRecovery.{marks_inconsistent, vertex_missing}
 

@@ -5,9 +5,9 @@ use Rattle.std.proofs.lemmas.Bool.{lt-ltb, le-ltb, eq-eqb, ne_eqb, eqb-true, ltb
 use Rattle.rules.specs.Tools.{pick, first_failing}
 use Rattle.rules.specs.HandedOver.{Answer, refuses, RefusalRow, refused_by, plate_limit, first_off, off_the_plate, out_of_range, work_short}
 use Rattle.rules.specs.declared.Recovered.{Recovered}
-use Rattle.statement.specs.PathStatement.{vertices_after}
+use Rattle.rules.specs.Marks.{vertices_after}
 use Rattle.statement.specs.PathCheck.{miscounted_path}
-use Rattle.path.specs.Rows.{Passed}
+use Rattle.plate_laws.specs.Rows.{Passed}
 use Rattle.contour_recovery.specs.ContourRecovery.{consistent, landed, vertex_count, marks_inconsistent, vertex_missing}
 use Rattle.recovery_laws.specs.Failing.{PassBefore, none_found}
 use Rattle.recovery.specs.Parts.{path_rows, mark_rows, vertex_rows}
@@ -53,12 +53,12 @@ module _ (path : List Float) (ms : List ℕ) (w : ℕ) where
         path_passes l = (counted, (on_plate, (le-ltb w (4 * n) l, tt)))
 
 -- what the path's rows let pass
-pub record Sound (path : List Float) (ms : List ℕ) (w : ℕ) : Type 0 where
+pub record SoundPath (path : List Float) (ms : List ℕ) (w : ℕ) : Type 0 where
   pub even : length path ≡ 2 * (length path / 2)
   pub marks : length ms ≡ length path
   pub room : length path / 2 ≤ w / 4
 
-pub rows_sound : (path : List Float) (ms : List ℕ) (w : ℕ) → Passed (path_rows path ms w) → Sound path ms w
+pub rows_sound : (path : List Float) (ms : List ℕ) (w : ℕ) → Passed (path_rows path ms w) → SoundPath path ms w
 unfolding miscounted_path work_short
 rows_sound path ms w p =
     let n = length path / 2 in
@@ -69,7 +69,7 @@ rows_sound path ms w p =
 
 -- ---- refusals 10 and 11
 
-abbrev pub RefusedBy : List RefusalRow → ℕ → ℕ → Type 0
+abbrev RefusedBy : List RefusalRow → ℕ → ℕ → Type 0
 RefusedBy rows number place = (later : Answer Recovered) → refuses number place ≡ refused_by rows later
 
 module _ (path : List Float) (ms : List ℕ) where

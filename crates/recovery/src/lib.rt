@@ -2,18 +2,19 @@
 #![tactic(auto)]
 
 ghost use Rattle.std.specs.Prelude.{◌≡◌, [], Bool, ℕ, ◌*◌, ◌/◌, ◌≤◌, ◌<◌, length, get_or, Err, IfOk, IfErr, IfSome, IsNone};
+ghost use Rattle.rules.specs.Limits.{highest_vertex, most_points};
 ghost use Rattle.rules.specs.Tools.{first_failing};
 ghost use Rattle.rules.specs.HandedOver.{Answer, refused_by, WorkKept};
 ghost use Rattle.rules.specs.declared.Recovered.{Recovered};
-ghost use Rattle.path.specs.Rows.{Passed};
-ghost use Rattle.statement.specs.PathStatement.{vertices_after};
+ghost use Rattle.plate_laws.specs.Rows.{Passed};
+ghost use Rattle.rules.specs.Marks.{vertices_after};
 ghost use Rattle.contour_recovery.specs.ContourRecovery as rule;
-ghost use Rattle.landings.specs.Holds.{Holds};
-ghost use Rattle.path_vertices.specs.Reading.{ReadTo};
+ghost use Rattle.landings.specs.LandedBefore.{LandedBefore};
+ghost use Rattle.path_vertices.specs.ReadTo.{ReadTo};
 ghost use Rattle.recovery_laws.specs.Failing.{PassBefore};
 ghost use Rattle.recovery.specs.Parts.{path_rows, mark_rows, vertex_rows};
 
-use landings::{Landings, none};
+use landings::Landings;
 use path_vertices::{MarkedPath, first_inconsistent};
 use plate::{PLATE_LIMIT, first_off};
 use recovery_parts::{vertex_count, write_contours};
@@ -38,9 +39,10 @@ fn check_slices(path: &[f64], marks: &[u32], work: usize) -> Result<(), Recovery
 
 // The lowest of the first `count` vertices that was not landed on.
 fn first_missing(landings: &Landings<'_>, count: usize) -> Option<usize>
-    requires { (count ≤ 65536) × (0 < count → 0 < length landings.now.vertices.now) }
-    ensures found { (S : ℕ → Bool) (i : ℕ) → Holds landings.now S i → IfSome result (λ v. (v < count) × (v ≡ first_failing S 0 count)) }
-    ensures none { (S : ℕ → Bool) (i : ℕ) → Holds landings.now S i → IsNone result → first_failing S 0 count ≡ count }
+    requires most { count ≤ most_points }
+    requires some { 0 < count → 0 < length landings.now.vertices.now }
+    ensures found { (S : ℕ → Bool) (i : ℕ) → LandedBefore landings.now S i → IfSome result (λ v. (v < count) × (v ≡ first_failing S 0 count)) }
+    ensures none { (S : ℕ → Bool) (i : ℕ) → LandedBefore landings.now S i → IsNone result → first_failing S 0 count ≡ count }
 {
     for v in 0..count {
         if !landings.has_landed(Vertex(v as u32)) {
@@ -56,11 +58,14 @@ fn read_path<'a, 'w>(
     marks: &'a [u32],
     work: &'w mut [u32],
 ) -> Result<Landings<'w>, RecoveryRefusal>
-    requires { (length path.now ≡ 2 * (length path.now / 2)) × (length marks.now ≡ length path.now) × (length path.now / 2 ≤ length work.old / 4) }
+    requires even { length path.now ≡ 2 * (length path.now / 2) }
+    requires marks { length marks.now ≡ length path.now }
+    requires room { length path.now / 2 ≤ length work.old / 4 }
     ensures refused { IfErr result (λ r. (later : Answer Recovered) → rule.recovery_answer (Err r) ≡ refused_by (mark_rows path.now marks.now) later) }
-    ensures read { IfOk result (λ w. (w.vertices.now ≡ vertices_after [] marks.now) × ReadTo w path.now marks.now (length path.now / 2)) }
+    ensures vertices { IfOk result (λ w. w.vertices.now ≡ vertices_after [] marks.now) }
+    ensures read { IfOk result (λ w. ReadTo w path.now marks.now (length path.now / 2)) }
 {
-    let landings = none(work, path.len() / 2);
+    let landings = Landings::none(work, path.len() / 2);
     let mut marked = MarkedPath {
         path,
         marks,
@@ -75,13 +80,13 @@ fn read_path<'a, 'w>(
 // How many vertices there are, or refusal 11.
 fn count_vertices(marks: &[u32], landings: &Landings<'_>) -> Result<usize, RecoveryRefusal>
     requires marks { length marks.now ≡ 2 * length landings.now.vertices.now }
-    requires within { (j : ℕ) → get_or landings.now.vertices.now j 0 ≤ 65535 }
+    requires within { (j : ℕ) → get_or landings.now.vertices.now j 0 ≤ highest_vertex }
     ensures refused { let vs = landings.now.vertices.now in
-        Holds landings.now (rule.landed marks.now vs (length vs)) (length vs) →
+        LandedBefore landings.now (rule.landed marks.now vs (length vs)) (length vs) →
         IfErr result (λ r. (later : Answer Recovered) → rule.recovery_answer (Err r) ≡ refused_by (vertex_rows marks.now vs) later) }
     ensures counted { let vs = landings.now.vertices.now in
         let m = rule.vertex_count marks.now vs (length vs) in
-        Holds landings.now (rule.landed marks.now vs (length vs)) (length vs) →
+        LandedBefore landings.now (rule.landed marks.now vs (length vs)) (length vs) →
         IfOk result (λ count. (count ≡ m) × PassBefore (rule.landed marks.now vs (length vs)) m) }
 {
     let count = vertex_count(marks, &*landings.vertices);

@@ -6,9 +6,8 @@ use Rattle.std.proofs.Math.Decide.{dec_le}
 use Rattle.rules.specs.Tools.{pick}
 use Rattle.rules.specs.HandedOver.{at}
 use Rattle.rules.specs.Bits.{same_point}
-use Rattle.rules.specs.RetraceAndMarks.{start_kind, cut_kind, back_step_kind, touch_kind, landing_kind, kind_at, reference_at}
-use Rattle.statement.specs.PathStatement.{IsJumpOrTouch, vertices_after}
-use Rattle.statement.specs.PathCheck.{enters}
+use Rattle.rules.specs.Marks.{start_kind, cut_kind, back_step_kind, touch_kind, landing_kind, kind_at, reference_at, vertices_after, enters}
+use Rattle.statement.specs.Division.{IsJumpOrTouch}
 use Rattle.contour_recovery.specs.ContourRecovery.{lands_on, landed, only_where, known_kind, vertex_in_range, cuts_from_an_end, returns_over_a_pair, starts_first, lands_once, returns_to_bits, jumps_apart, consistent}
 use Rattle.recovery_laws.specs.Vertices.{vertex_back}
 

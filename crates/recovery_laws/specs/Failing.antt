@@ -4,7 +4,7 @@ use Rattle.std.proofs.Common.{sym, subst, ◌∙◌, arith}
 use Rattle.std.specs.Float.Ieee.Bits.{is_true}
 use Rattle.std.proofs.Math.Decide.{ℕ_discrete}
 use Rattle.rules.specs.Tools.{first_failing}
-use Rattle.division.specs.Rules.{first_failing_lem, first_only, none_failing}
+use Rattle.division_laws.specs.Rules.{first_failing_lem, first_only, none_failing}
 
 -- those before v pass
 unfoldable pub PassBefore : (ℕ → Bool) → ℕ → Type 0

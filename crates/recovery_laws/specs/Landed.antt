@@ -1,12 +1,12 @@
 -- Which vertices are landed on among the first path points, and where. Assumes nothing.
 use Rattle.std.specs.Prelude.{◌⊎◌, ◌-◌, ◌≡◌, refl, Bool, true, false, not, ◌||◌, List, ℕ, zero, suc, ◌+◌, ◌≤◌, ◌<◌, T, max, eqb, get_or, Float}
 use Rattle.std.proofs.Common.{inl, inr, subst, ◌∙◌, arith, eqb-true, eq-eqb}
-use Rattle.std.proofs.Math.Bool.{and-true}
+use Rattle.std.proofs.Math.Bool.{and-true, or-true}
+use Rattle.std.specs.Float.Ieee.Bits.{is_true}
 use Rattle.std.proofs.Math.Decide.{dec_le}
 use Rattle.rules.specs.Tools.{pick, any, up_from, first_failing}
-use Rattle.rules.specs.RetraceAndMarks.{cut_kind, back_step_kind, touch_kind, kind_at}
-use Rattle.statement.specs.PathCheck.{enters}
-use Rattle.division.specs.Rules.{first_failing_lem}
+use Rattle.rules.specs.Marks.{cut_kind, back_step_kind, touch_kind, kind_at, enters}
+use Rattle.division_laws.specs.Rules.{first_failing_lem}
 use Rattle.contour_recovery.specs.ContourRecovery.{lands_on, landed, consistent, vertex_count, landing_place}
 use Rattle.recovery_laws.specs.ByKind.{rule_lands}
 
@@ -24,6 +24,15 @@ lands ms i = enters (kind_at ms i) || eqb (kind_at ms i) cut_kind
 pub lands_on_it : (ms vs : List ℕ) (i v : ℕ) → v ≡ get_or vs i 0 → lands_on ms vs v i ≡ lands ms i
 unfolding lands_on lands
 lands_on_it ms vs i v e = rw (e, eq-eqb (get_or vs i 0) (get_or vs i 0) refl) (and-true (enters (kind_at ms i) || eqb (kind_at ms i) cut_kind))
+
+-- what enters or cuts, lands on its own vertex
+pub entry_lands : (ms vs : List ℕ) (i : ℕ) → T (enters (kind_at ms i)) → lands_on ms vs (get_or vs i 0) i ≡ true
+unfolding lands
+entry_lands ms vs i t = lands_on_it ms vs i (get_or vs i 0) refl ∙ (rw (is_true (enters (kind_at ms i)) t) refl)
+
+pub cut_lands : (ms vs : List ℕ) (i : ℕ) → kind_at ms i ≡ cut_kind → lands_on ms vs (get_or vs i 0) i ≡ true
+unfolding lands
+cut_lands ms vs i e = lands_on_it ms vs i (get_or vs i 0) refl ∙ (rw (eq-eqb (kind_at ms i) cut_kind e) (or-true (enters (kind_at ms i))))
 
 module _ (ms vs : List ℕ) where
   -- ---- one path point more

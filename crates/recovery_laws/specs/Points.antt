@@ -4,8 +4,8 @@ use Rattle.std.proofs.Common.{arith, ◌∙◌, ap}
 use Rattle.std.proofs.lemmas.List.{length-map}
 use Rattle.rules.specs.Tools.{up_from}
 use Rattle.rules.specs.HandedOver.{at}
-use Rattle.path.specs.Lists.{length_up_from}
-use Rattle.path.specs.Slices.{coordinates_length, coordinates_at}
+use Rattle.plate_laws.specs.Lists.{length_up_from}
+use Rattle.plate_laws.specs.Slices.{coordinates_length, coordinates_at}
 use Rattle.contour_recovery.specs.ContourRecovery.{landing_place, recovered_points}
 
 -- a run of numbers, through a function

@@ -4,7 +4,7 @@ use Rattle.std.proofs.Common.{ap, inl, inr, ◌∙◌, zero-add, arith}
 use Rattle.std.proofs.lemmas.Bool.{lt-ltb}
 use Rattle.rules.specs.Tools.{pick, sum}
 use Rattle.rules.specs.HandedOver.{Plate, Contour, contours_from, contours}
-use Rattle.statement.specs.PathStatement.{Among, IsContour}
+use Rattle.rules.specs.Contours.{Among, IsContour}
 use Rattle.contour_recovery.specs.ContourRecovery.{lengthen, runs}
 
 -- functions that agree on the vertices have the same runs

@@ -4,9 +4,8 @@ use Rattle.std.proofs.Common.{sym, ne_eqb, ◌∙◌, arith, length-append}
 use Rattle.std.proofs.lemmas.List.{get_or-take, append_assoc, append-nil}
 use Rattle.std.proofs.Math.Seq.{take-append_seam, get_or-append_seam, length-take-le}
 use Rattle.rules.specs.Tools.{pick}
-use Rattle.rules.specs.RetraceAndMarks.{cut_kind, back_step_kind, kind_at, reference_at}
-use Rattle.statement.specs.PathStatement.{named, vertices_after}
-use Rattle.path.specs.Slices.{twice, twice_one}
+use Rattle.rules.specs.Marks.{cut_kind, back_step_kind, kind_at, reference_at, named, vertices_after}
+use Rattle.plate_laws.specs.Slices.{twice, twice_one}
 
 -- ---- how many
 

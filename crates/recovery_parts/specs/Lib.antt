@@ -1,6 +1,6 @@
 pub mod Flags
-pub mod Landing
-pub mod Flagging
+pub mod VertexCounts
+pub mod CutFlags
 pub mod Lengths
-pub mod Placing
+pub mod PointPlaces
 pub mod Outcome

@@ -2,17 +2,18 @@
 #![tactic(auto)]
 
 ghost use Rattle.std.specs.Prelude.{◌≡◌, [], ◌∷◌, ◌*◌, ◌/◌, ◌≤◌, ◌<◌, length};
+ghost use Rattle.rules.specs.Limits.{most_points};
 ghost use Rattle.rules.specs.HandedOver.{over, gives, refused_by, no_room, written};
 ghost use Rattle.contour_recovery.specs.ContourRecovery as rule;
 ghost use Rattle.recovery_parts.specs.Flags.{flagged, flagged_runs, Flags};
 ghost use Rattle.recovery_laws.specs.Landed.{lands};
 ghost use Rattle.recovery_parts.specs.Lengths.{ends};
-ghost use Rattle.recovery_parts.specs.Placing.{LandedOnce};
+ghost use Rattle.recovery_parts.specs.PointPlaces.{LandedOnce};
 
 use rules::{CUT, JUMP, Recovered, RecoveryRefusal, START, TOUCH};
 
 // Whether path point i lands on its vertex: by a start, a jump, a touch or a cut.
-#[tactic(auto, unfolding(recovery_laws::specs::Landed::lands, statement::specs::PathCheck::enters, rules::specs::RetraceAndMarks::kind_at))]
+#[tactic(auto, unfolding(recovery_laws::specs::Landed::lands, rules::specs::Marks::enters, rules::specs::Marks::kind_at))]
 fn lands(marks: &[u32], i: usize) -> bool
     requires { 2 * i < length marks.now }
     ensures { result ≡ lands marks.now i }
@@ -73,9 +74,10 @@ fn count_contours(flags: &[u32]) -> usize
 
 // Writes each vertex's point: that of the path point which lands on it.
 fn put_points(path: &[f64], marks: &[u32], vertices: &[u32], points: &mut [f64])
-    requires slices { (length path.now ≡ 2 * length vertices.now) × (length marks.now ≡ 2 * length vertices.now) }
-    requires landed { let m = rule.vertex_count marks.now vertices.now (length vertices.now) in
-        LandedOnce marks.now vertices.now m × (2 * m ≤ length points.old) }
+    requires path { length path.now ≡ 2 * length vertices.now }
+    requires marks { length marks.now ≡ 2 * length vertices.now }
+    requires landed { LandedOnce marks.now vertices.now (rule.vertex_count marks.now vertices.now (length vertices.now)) }
+    requires room { 2 * rule.vertex_count marks.now vertices.now (length vertices.now) ≤ length points.old }
     ensures { let n = length vertices.now in
         points.new ≡ over (rule.recovered_points path.now marks.now vertices.now n (rule.vertex_count marks.now vertices.now n)) points.old }
 {
@@ -90,7 +92,7 @@ fn put_points(path: &[f64], marks: &[u32], vertices: &[u32], points: &mut [f64])
 
 // Writes the contours' lengths.
 fn put_lengths(flags: &[u32], lengths: &mut [u32])
-    requires short { length flags.now ≤ 65536 }
+    requires short { length flags.now ≤ most_points }
     requires room { length (flagged_runs flags.now) ≤ length lengths.old }
     ensures { lengths.new ≡ over (flagged_runs flags.now) lengths.old }
 {
@@ -115,8 +117,10 @@ pub fn write_contours(
     points: &mut [f64],
     lengths: &mut [u32],
 ) -> Result<Recovered, RecoveryRefusal>
-    requires slices { (length path.now ≡ 2 * length vertices.now) × (length marks.now ≡ 2 * length vertices.now) }
-    requires count { (length flags.old ≡ rule.vertex_count marks.now vertices.now (length vertices.now)) × (length flags.old ≤ 65536) }
+    requires path { length path.now ≡ 2 * length vertices.now }
+    requires marks { length marks.now ≡ 2 * length vertices.now }
+    requires count { length flags.old ≡ rule.vertex_count marks.now vertices.now (length vertices.now) }
+    requires most { length flags.old ≤ most_points }
     requires landed { LandedOnce marks.now vertices.now (length flags.old) }
     ensures { let m = length flags.old in
         let xs = rule.recovered_points path.now marks.now vertices.now (length vertices.now) m in

@@ -1,10 +1,8 @@
 -- The remainder of two finite floats by their significands and exponents. Assumes nothing.
-use Rattle.std.specs.Prelude.{◌≡◌, refl, ◌⊎◌, ℕ, zero, suc, ◌+◌, ◌-◌, ◌*◌, ◌/◌, ◌%◌, ◌^◌, ◌≤◌, ◌<◌, Bool, true, false, not, T, ℤ, Float}
-use Rattle.std.proofs.Common.{sym, ap, ◌∙◌, subst, inl, inr, le_of_eq, lt_irrefl, lt_of_lt_of_le, le_trans, mul_assoc, mul_right_comm, mul-pos, mul-le-mul_right, mul-div_cancel, mod-eq_of_lt, arith, true≢false, pow-add, pow_pos, pow_mono, shl_lt}
+use Rattle.std.specs.Prelude.{◌≡◌, refl, ◌⊎◌, ℕ, zero, suc, ◌+◌, ◌-◌, ◌*◌, ◌%◌, ◌^◌, ◌≤◌, ◌<◌, Bool, true, false, not, T, ℤ, Float}
+use Rattle.std.proofs.Common.{sym, ap, ◌∙◌, subst, inl, inr, le_of_eq, lt_irrefl, lt_of_lt_of_le, le_trans, mul_assoc, mul_right_comm, mul-pos, mul-le-mul_right, mod-eq_of_lt, arith, true≢false, pow-add, pow_pos, pow_mono, shl_lt}
 use Rattle.std.proofs.lemmas.Bool.{false≢true}
-use Rattle.std.proofs.Math.Nat.{mul-mod_left}
 use Rattle.std.proofs.Math.Dec.{eqb-suc-zero}
-use Rattle.std.proofs.Math.Arith.{mod-mul}
 use Rattle.std.specs.Float.{nan, inf, fin, binary64, is_sign_negative}
 use Rattle.std.specs.Float.Ieee.{up, down, rem, round, neg, is_nan, fits, of_bits}
 use Rattle.std.specs.Float.Ieee.Bits.{of_bits-fits}
@@ -13,17 +11,11 @@ use Rattle.std.specs.Float.Ieee.Fits.{up_pos, down_pos, round-fits}
 use Rattle.std.specs.Float.Ieee.Positive.{first_pos}
 use Rattle.std.specs.Float.Ieee.Scale.{finite, round_same}
 use Rattle.rounding.specs.Magnitude.{IsMagnitude, zero_magnitude}
+use Rattle.rounding.specs.Remainder.{scaled}
 use Rattle.rounding.specs.StickyBit.{factor_zero}
-use Rattle.remainder.proofs.Signed.{neg_round, same_float}
+use Rattle.remainder.proofs.Signs.{neg_round, same_float}
 
 -- ---- whole numbers
-
--- both numbers c times as large
-scaled : (a b c : ℕ) → 0 < b → 0 < c → a * c % (b * c) ≡ a % b * c
-scaled a b c B C = mod-mul (a * c) B C ∙ rest (mul-div_cancel a C) (mul-mod_left a c)
-  where
-    rest : a * c / c ≡ a → a * c % c ≡ 0 → a * c / c % b * c + a * c % c ≡ a % b * c
-    rest h g = rw (h, g) (omega arith)
 
 -- the unit of s is a whole number of that of t
 by_shift : (a i b j : ℕ) → 0 < b → j ≤ i → a * 2 ^ i % (b * 2 ^ j) ≡ a * 2 ^ (i - j) % b * 2 ^ j

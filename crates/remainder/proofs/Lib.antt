@@ -1,4 +1,4 @@
 pub mod Exact
-pub mod Packing
-pub mod Shifting
-pub mod Signed
+pub mod BitPattern
+pub mod DigitShifts
+pub mod Signs

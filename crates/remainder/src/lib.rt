@@ -16,7 +16,9 @@ const FIELD_UNIT: u64 = 4503599627370496;
 
 // n × 2^d mod m, as many digits at a time as fit: the loop counts digits, and no index.
 fn shifted_remainder(n: u64, d: u64, m: u64) -> u64
-    requires { (n < 2 ^ 53) × (0 < m) × (m < 2 ^ 53) }
+    requires fits { n < 2 ^ 53 }
+    requires nonzero { 0 < m }
+    requires divisor_fits { m < 2 ^ 53 }
     ensures { result ≡ n * 2 ^ d % m }
 {
     let mut r = n;
@@ -30,8 +32,11 @@ fn shifted_remainder(n: u64, d: u64, m: u64) -> u64
 
 // How many of the exponent's e twos a significand has room for.
 fn twos_taken(r: u64, e: u64) -> u64
-    requires { (0 < r) × (r < 2 ^ 53) }
-    ensures { (result ≤ e) × (r * 2 ^ result < 2 ^ 53) × ((result ≡ e) ⊎ (2 ^ 52 ≤ r * 2 ^ result)) }
+    requires nonzero { 0 < r }
+    requires fits { r < 2 ^ 53 }
+    ensures most { result ≤ e }
+    ensures fits { r * 2 ^ result < 2 ^ 53 }
+    ensures filled { (result ≡ e) ⊎ (2 ^ 52 ≤ r * 2 ^ result) }
 {
     let room = u64::from(r.leading_zeros()) - SPARE_DIGITS;
     room.min(e)
@@ -39,7 +44,8 @@ fn twos_taken(r: u64, e: u64) -> u64
 
 // The float r × 2^e, in units of 2^-1074. The significand's leading digit adds one to the exponent's field.
 fn float_of(r: u64, e: u64) -> f64
-    requires { (r < 2 ^ 53) × (e ≤ 2045) }
+    requires fits { r < 2 ^ 53 }
+    requires exponent { e ≤ 2045 }
     ensures { result ≡ round binary64 false (r * 2 ^ e) (2 ^ 1074) }
 {
     if r == 0 {
@@ -51,7 +57,8 @@ fn float_of(r: u64, e: u64) -> f64
 
 // Where s has the greater exponent, its significand has all its digits, and t is the smaller one.
 fn finite_remainder(t: f64, s: f64) -> f64
-    requires { T (finite t) × T (finite s) }
+    requires first { T (finite t) }
+    requires second { T (finite s) }
     ensures { result ≡ rem binary64 t s }
 {
     let a = magnitude_of(t);

@@ -1,1 +1,1 @@
-pub mod Tellings
+pub mod AnswerStructs

@@ -4,7 +4,7 @@ use Rattle.std.proofs.Common.{sym, ap, ◌∙◌, subst, arith}
 use Rattle.rules.specs.HandedOver.{Answer, gives, refuses, number_of, refusal, answer_of}
 use Rattle.rules.specs.declared.Refusal.{Refusal}
 use Rattle.rules.specs.declared.Refusal.TheVariants.{TooManyContours, TooManyPoints, Miscounted, OffThePlate, WorkShort, Full, Blank, BlockDamaged, WrongEnd, NotDrawn, BadLayer}
-use Rattle.path.specs.Rows.{Other}
+use Rattle.plate_laws.specs.Rows.{Other}
 use Rattle.contour_recovery.specs.ContourRecovery.{recovery_answer}
 use Rattle.rules.specs.declared.Recovered.{Recovered}
 use Rattle.rules.specs.declared.RecoveryRefusal.{RecoveryRefusal}
@@ -27,10 +27,6 @@ above_zero (BlockDamaged i) = omega arith
 above_zero (WrongEnd i) = omega arith
 above_zero (NotDrawn i) = omega arith
 above_zero (BadLayer i) = omega arith
-
-pub not_zero : {A : Type 0} (r : Refusal) (n k : ℕ) → refusal {A = A} r ≡ refuses n k → n ≡ 0 → ⊥
-unfolding refusal
-not_zero {A} r n k h z = let e : number_of r ≡ n = cc in omega (arith, above_zero r)
 
 -- a refusal whose place has 32 bits
 abbrev pub PlaceOf32 : Refusal → Type 0

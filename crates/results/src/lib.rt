@@ -1,9 +1,10 @@
-// The structs of the C interface, made from the answers of the calls. A result's number is 0; a refusal has its number and its place, and 0 in every other field.
+// The structs of the C interface, made from the answers of the calls. A result's number is 0; a refusal has its number and its place, and 0 in every
+// other field.
 #![tactic(auto)]
 
 ghost use Rattle.std.specs.Prelude.{◌≡◌, ℕ, Err};
 ghost use Rattle.rules.specs.HandedOver.{refuses, refusal, answer_of};
-ghost use Rattle.path.specs.Rows.{Other};
+ghost use Rattle.plate_laws.specs.Rows.{Other};
 ghost use Rattle.contour_recovery.specs.ContourRecovery.{recovery_answer};
 ghost use Rattle.results.specs.Results.{told, distance_result, start_result, order_result, straight_result, retrace_result, check_result, write_result, read_result, contours_result};
 ghost use Rattle.results.specs.Refusals.{PlaceOf32};
@@ -100,7 +101,7 @@ pub struct OrderResult {
     pub entries: u32,
 }
 
-#[tactic(auto, using(crate::proofs::Tellings::order_told))]
+#[tactic(auto, using(crate::proofs::AnswerStructs::order_told))]
 pub fn order_result(answer: Result<u32, Refusal>) -> OrderResult
     requires { Other 12 (answer_of answer) }
     ensures { result ≡ order_result (answer_of answer) }
@@ -121,7 +122,7 @@ pub struct StraightResult {
     pub points: u32,
 }
 
-#[tactic(auto, using(crate::proofs::Tellings::straight_told))]
+#[tactic(auto, using(crate::proofs::AnswerStructs::straight_told))]
 pub fn straight_result(answer: Result<u32, Refusal>) -> StraightResult
     requires { Other 12 (answer_of answer) }
     ensures { result ≡ straight_result (answer_of answer) }
@@ -149,7 +150,7 @@ pub struct RetraceResult {
     pub jump_length: u64,
 }
 
-#[tactic(auto, using(crate::proofs::Tellings::retrace_told))]
+#[tactic(auto, using(crate::proofs::AnswerStructs::retrace_told))]
 pub fn retrace_result(answer: Result<Totals, Refusal>) -> RetraceResult
     requires { Other 12 (answer_of answer) }
     ensures { result ≡ retrace_result (answer_of answer) }
@@ -176,7 +177,7 @@ pub struct CheckResult {
     pub place: u64,
 }
 
-#[tactic(auto, using(path::specs::Rows::refused), unfolding(crate::specs::Results::check_result, rules::specs::HandedOver::answer_of, rules::specs::HandedOver::number_of, rules::specs::HandedOver::place_of, rules::specs::HandedOver::refusal))]
+#[tactic(auto, using(plate_laws::specs::Rows::refused), unfolding(crate::specs::Results::check_result, rules::specs::HandedOver::answer_of, rules::specs::HandedOver::number_of, rules::specs::HandedOver::place_of, rules::specs::HandedOver::refusal))]
 pub fn check_result(answer: Result<(), Refusal>) -> CheckResult
     ensures { result ≡ check_result (answer_of answer) }
 {
@@ -204,7 +205,7 @@ pub struct WriteFileResult {
     pub bytes: u32,
 }
 
-#[tactic(auto, using(crate::proofs::Tellings::write_told))]
+#[tactic(auto, using(crate::proofs::AnswerStructs::write_told))]
 pub fn write_result(answer: Result<u32, Refusal>) -> WriteFileResult
     requires { Other 12 (answer_of answer) }
     ensures { result ≡ write_result (answer_of answer) }
@@ -225,7 +226,7 @@ pub struct ReadFileResult {
     pub points: u32,
 }
 
-#[tactic(auto, using(crate::proofs::Tellings::read_told))]
+#[tactic(auto, using(crate::proofs::AnswerStructs::read_told))]
 pub fn read_result(answer: Result<u32, Refusal>) -> ReadFileResult
     requires { Other 12 (answer_of answer) }
     ensures { result ≡ read_result (answer_of answer) }

@@ -9,45 +9,48 @@ use lib.Seq.{take_all, take_at}
 use borrow.Author.Tests.{lt-ltb, le-ltb, ne_eqb}
 use Rattle.rules.specs.Tools.{pick}
 use Rattle.rules.specs.HandedOver.{AllF64, Plate, plate, Answer, gives, refuses, refusal, number_of, RefusalRow, refused_by, work_short, full, plate_rows, retrace_work, retrace_rows, over, after, retrace_room, frees_work, WorkKept}
-use Rattle.rules.specs.RetraceAndMarks.{Step, coordinates, marks, retrace}
-use Rattle.rules.specs.Calls.{totals, path_totals, vertices, retrace_call}
+use Rattle.rules.specs.Retrace.{retrace}
+use Rattle.rules.specs.Marks.{Step, coordinates, marks, vertices}
+use Rattle.rules.specs.Calls.{totals, path_totals, retrace_call}
 use Rattle.rules.specs.declared.Totals.{Totals}
 use Rattle.rules.specs.declared.Refusal.{Refusal}
 use Rattle.rules.specs.declared.StartPointStrategy.{StartPointStrategy}
-use Rattle.statement.specs.PathStatement.{contour_count, Divides, PathStatement, NeverFall, LayerStatement}
+use Rattle.statement.specs.PathStatement.{Divides, PathStatement, NeverFall, LayerStatement}
+use Rattle.rules.specs.Contours.{contour_count}
 use Rattle.rules.specs.Box.{box}
 use Rattle.statement.specs.HowNear.{LandingsNear, written_points, HowNear}
 use Rattle.statement.specs.Quotation.{Quoted, LengthStatement}
-use Rattle.path.specs.Rows.{Other, rows_give, rows_lack, rows_pass, rows_append, refusal_refuses}
-use Rattle.path.specs.Accepted.{Accepted, input_lacks}
-use Rattle.path.specs.Start.{AllTakePart}
-use Rattle.path.specs.Slices.{coordinates_length, vertices_length, marks_length}
+use Rattle.plate_laws.specs.Rows.{Other, rows_give, rows_lack, rows_pass, rows_append, refusal_refuses}
+use Rattle.plate_laws.specs.Accepted.{Accepted, input_lacks}
+use Rattle.plate_laws.specs.Start.{AllTakePart}
+use Rattle.plate_laws.specs.Slices.{coordinates_length, vertices_length, marks_length}
 use Rattle.path.specs.Theorem.{path_statement}
 use Rattle.path.specs.NeverFall.{layer_statement}
 use Rattle.near.specs.Theorem.{how_near}
-use Rattle.lengths.specs.Walked.{Walked}
+use Rattle.length_laws.specs.Walked.{Walked}
 use Rattle.lengths.specs.Walks.{retrace_walked}
 use Rattle.lengths.specs.Theorem.{length_statement}
 use Rattle.slices.specs.Pairs.{pairs_take, coordinates_take}
 use Rattle.slices.specs.Outcome.{after_rows, work_same}
 use Rattle.path_points.specs.Wrote.{Wrote, marks_pairs}
+use Rattle.retrace.specs.RetracePromise.{RetracePromise}
 
 -- `a` is the call's answer, and the slices afterwards are path', ms', work' and ds'
-abbrev pub Met : Plate → List Float → List ℕ → List ℕ → List Float → Answer Totals → List Float → List ℕ → List ℕ → List Float → Type 0
-Met p path ms work ds a path' ms' work' ds' =
+abbrev pub RetraceMet : Plate → List Float → List ℕ → List ℕ → List Float → Answer Totals → List Float → List ℕ → List ℕ → List Float → Type 0
+RetraceMet p path ms work ds a path' ms' work' ds' =
     let o = retrace_call p path ms (length work) (length ds) in
     (a ≡ o.answer) × (path' ≡ o.path) × (ms' ≡ o.marks) × WorkKept o.answer work work' × WorkKept o.answer ds ds'
 
 -- and what a result has written divides as the path statement says, where there is a contour, its layers never fall, and its lengths are what is told
-abbrev pub Divided : Plate → Answer Totals → List Float → List ℕ → Type 0
-Divided p a path' ms' =
+abbrev pub ResultDivides : Plate → Answer Totals → List Float → List ℕ → Type 0
+ResultDivides p a path' ms' =
     (n : Totals) → a ≡ gives n →
     (1 ≤ contour_count p → Divides p n (take (2 * n.points) path') (take (2 * n.points) ms'))
     × NeverFall p n.points (take (2 * n.points) ms')
     × Quoted p n (take (2 * n.points) path') (take (2 * n.points) ms')
 
 divides : (p : Plate) (path : List Float) (ms : List ℕ) (w d : ℕ) (a : Answer Totals) (path' : List Float) (ms' : List ℕ) →
-    a ≡ (retrace_call p path ms w d).answer → path' ≡ (retrace_call p path ms w d).path → ms' ≡ (retrace_call p path ms w d).marks → Divided p a path' ms'
+    a ≡ (retrace_call p path ms w d).answer → path' ≡ (retrace_call p path ms w d).path → ms' ≡ (retrace_call p path ms w d).marks → ResultDivides p a path' ms'
 unfolding PathStatement LayerStatement LengthStatement
 divides p path ms w d a path' ms' x y z n e =
     let given = sym x ∙ e in
@@ -64,28 +67,46 @@ unfolding HowNear
 near p path ms w d a path' ms' f64 own x y z = rw (x, y, z) (how_near p path ms w d f64 own)
 
 -- what meets the outcome divides, and its landings are near
-pub whole : (xs : List Float) (ns ls : List ℕ) (width height : ℕ) (s : StartPointStrategy) → AllF64 xs → (path : List Float) (ms work : List ℕ) (ds : List Float)
-    (a : Answer Totals) (path' : List Float) (ms' work' : List ℕ) (ds' : List Float) →
-    let p = plate xs ns ls width height s in
-    Met p path ms work ds a path' ms' work' ds' → Met p path ms work ds a path' ms' work' ds' × Divided p a path' ms' × WrittenNear a path' ms'
+pub whole : (xs : List Float) (ns ls : List ℕ) (width height : ℕ) (s : StartPointStrategy) → AllF64 xs →
+    {path : List Float} {ms work : List ℕ} {ds : List Float} {a : Answer Totals} {path' : List Float} {ms' work' : List ℕ} {ds' : List Float} →
+    RetraceMet (plate xs ns ls width height s) path ms work ds a path' ms' work' ds' →
+    RetracePromise (plate xs ns ls width height s) path ms work ds a path' ms' work' ds'
 unfolding plate
-whole xs ns ls width height s f64 path ms work ds a path' ms' work' ds' m =
-    let p = plate xs ns ls width height s in (
-      m,
-      divides p path ms (length work) (length ds) a path' ms' m.0 m.1 m.2,
-      near p path ms (length work) (length ds) a path' ms' f64 refl m.0 m.1 m.2,
-    )
+whole xs ns ls width height s f64 {path = path} {ms = ms} {work = work} {ds = ds} {a = a} {path' = path'} {ms' = ms'} m =
+    let p = plate xs ns ls width height s in
+    let d = divides p path ms (length work) (length ds) a path' ms' m.0 m.1 m.2 in
+    record {
+      answer = m.0;
+      path_is = m.1;
+      marks_are = m.2;
+      work_kept = m.3;
+      distances_kept = m.4;
+      divides = λ n e. (d n e).0;
+      never_fall = λ n e. (d n e).1;
+      quoted = λ n e. (d n e).2;
+      near = near p path ms (length work) (length ds) a path' ms' f64 refl m.0 m.1 m.2;
+    }
 
 -- a refusal other than 6 has written nothing
 near_none : (n k : ℕ) (path' : List Float) (ms' : List ℕ) → (n ≡ 6 → ⊥) → WrittenNear (refuses n k) path' ms'
 unfolding LandingsNear written_points pick
 near_none n k path' ms' other = rw (ne_eqb n 6 other) (λ j l. absurd (omega arith))
 
-pub whole_refused : (p : Plate) (path : List Float) (ms work : List ℕ) (ds : List Float) (n k : ℕ) (path' : List Float) (ms' work' : List ℕ) (ds' : List Float) →
-    (n ≡ 6 → ⊥) → Met p path ms work ds (refuses n k) path' ms' work' ds' →
-    Met p path ms work ds (refuses n k) path' ms' work' ds' × Divided p (refuses n k) path' ms' × WrittenNear (refuses n k) path' ms'
-whole_refused p path ms work ds n k path' ms' work' ds' other m =
-    (m, divides p path ms (length work) (length ds) (refuses n k) path' ms' m.0 m.1 m.2, near_none n k path' ms' other)
+pub whole_refused : {p : Plate} {path : List Float} {ms work : List ℕ} {ds : List Float} {n k : ℕ} {path' : List Float} {ms' work' : List ℕ} {ds' : List Float} →
+    (n ≡ 6 → ⊥) → RetraceMet p path ms work ds (refuses n k) path' ms' work' ds' → RetracePromise p path ms work ds (refuses n k) path' ms' work' ds'
+whole_refused {p = p} {path = path} {ms = ms} {work = work} {ds = ds} {n = n} {k = k} {path' = path'} {ms' = ms'} other m =
+    let d = divides p path ms (length work) (length ds) (refuses n k) path' ms' m.0 m.1 m.2 in
+    record {
+      answer = m.0;
+      path_is = m.1;
+      marks_are = m.2;
+      work_kept = m.3;
+      distances_kept = m.4;
+      divides = λ t e. (d t e).0;
+      never_fall = λ t e. (d t e).1;
+      quoted = λ t e. (d t e).2;
+      near = near_none n k path' ms' other;
+    }
 
 -- what the checks refuse is another
 pub not_full : (p : Plate) (r : Refusal) (m : ℕ) → refusal r ≡ refused_by (plate_rows p) (gives m) → number_of r ≡ 6 → ⊥
@@ -121,7 +142,7 @@ module _ (p : Plate) (path : List Float) (ms work : List ℕ) (ds : List Float) 
   unfolding retrace_rows
   behind n a = rows_append (plate_rows p) (rows n) (gives a)
 
-  pub met_refused : (r : Refusal) (m : ℕ) → refusal r ≡ refused_by (plate_rows p) (gives m) → Met p path ms work ds (refusal r) path ms work ds
+  pub met_refused : (r : Refusal) (m : ℕ) → refusal r ≡ refused_by (plate_rows p) (gives m) → RetraceMet p path ms work ds (refusal r) path ms work ds
   unfolding retrace_call
   met_refused r m h =
       let lacks = (input_lacks p.points p.lengths p.layers p.strategy).0 in
@@ -137,22 +158,22 @@ module _ (p : Plate) (path : List Float) (ms work : List ℕ) (ds : List Float) 
     passed : {A : Type 0} (n : ℕ) (a : A) → refused_by (retrace_rows p (length work) (length ds) c n) (gives a) ≡ refused_by (rows n) (gives a)
     passed n a = behind n a ∙ rows_pass (plate_rows p) (rows_give (plate_rows p) _ k sound).0 _
 
-    pub met_short : length work < retrace_work p c → Met p path ms work ds (refuses 5 0) path ms work ds
+    pub met_short : length work < retrace_work p c → RetraceMet p path ms work ds (refuses 5 0) path ms work ds
     unfolding retrace_call refused_by work_short after pick
     met_short h =
         rw (passed (length (retrace p)) (path_totals p (retrace p)), lt-ltb (length work) (retrace_work p c) h) (refl, refl, refl, work_same _ work, work_same _ ds)
 
     module _ (enough : retrace_work p c ≤ length work) where
-      pub met_short_distances : length ds < length p.lengths → Met p path ms work ds (refuses 5 1) path ms work ds
+      pub met_short_distances : length ds < length p.lengths → RetraceMet p path ms work ds (refuses 5 1) path ms work ds
       unfolding retrace_call refused_by work_short after pick
       met_short_distances h =
           rw (passed (length (retrace p)) (path_totals p (retrace p)), le-ltb (length work) (retrace_work p c) enough, lt-ltb (length ds) (length p.lengths) h)
           (refl, refl, refl, work_same _ work, work_same _ ds)
 
       -- the path was joined, in room for c points
-      module _ (enough-ds : length p.lengths ≤ length ds) (n : ℕ) (path' : List Float) (ms' work' : List ℕ) (ds' : List Float)
+      module _ (enough-ds : length p.lengths ≤ length ds) {n : ℕ} {path' : List Float} {ms' : List ℕ} (work' : List ℕ) (ds' : List Float)
           (w : Wrote p.points (retrace p) c n path path' ms ms') where
-        pub met_full : c < n → Met p path ms work ds (refuses 6 c) path' ms' work' ds'
+        pub met_full : c < n → RetraceMet p path ms work ds (refuses 6 c) path' ms' work' ds'
         unfolding retrace_call refused_by work_short full after pick frees_work WorkKept
         met_full h =
             rw (
@@ -165,7 +186,7 @@ module _ (p : Plate) (path : List Float) (ms work : List ℕ) (ds : List Float) 
             )
             (refl, w.points, w.kinds, λ t. absurd t, λ t. absurd t)
 
-        pub met_whole : n ≤ c → (r : Totals) → r ≡ path_totals p (retrace p) → Met p path ms work ds (gives r) path' ms' work' ds'
+        pub met_whole : n ≤ c → (r : Totals) → r ≡ path_totals p (retrace p) → RetraceMet p path ms work ds (gives r) path' ms' work' ds'
         unfolding retrace_call refused_by work_short full after pick WorkKept
         met_whole h r e =
             let all = take_all c (retrace p) (omega (arith, w.counted)) in
@@ -191,7 +212,7 @@ parts xs steps room n was path marked ms w l =
       ap (take (2 * n)) (rw all at w.kinds) ∙ take_at (marks steps) _ (2 * n) (omega (arith, marks_length steps)),
     )
 
-module _ (p : Plate) (room n : ℕ) (was path : List Float) (marked ms : List ℕ) (w : Wrote p.points (retrace p) room n was path marked ms) (l : n ≤ room) where
+module _ (p : Plate) {room n : ℕ} {was path : List Float} {marked ms : List ℕ} (w : Wrote p.points (retrace p) room n was path marked ms) (l : n ≤ room) where
   -- what these parts come to is what the path comes to
   pub counted : (r : Totals) → r ≡ totals n (take (2 * n) path) (take (2 * n) ms) → r ≡ path_totals p (retrace p)
   unfolding path_totals

@@ -1,13 +1,10 @@
 // The retrace call.
 #![tactic(auto)]
 
-ghost use Rattle.std.specs.Prelude.{◌≡◌, ◌+◌, ◌*◌, ◌≤◌, length, take};
-ghost use Rattle.rules.specs.HandedOver.{AllF64, plate_of, gives, answer_of, WorkKept};
-ghost use Rattle.statement.specs.PathStatement.{contour_count, Divides, NeverFall};
-ghost use Rattle.statement.specs.HowNear.{LandingsNear, written_points};
-ghost use Rattle.statement.specs.Quotation.{Quoted};
-ghost use Rattle.rules.specs.declared.Totals.{Totals};
-ghost use Rattle.rules.specs.Calls.{retrace_call};
+ghost use Rattle.std.specs.Prelude.{◌≡◌, ◌+◌, ◌*◌, ◌≤◌, length};
+ghost use Rattle.rules.specs.Limits.{fixed_work, most_contours, most_path_points, most_points};
+ghost use Rattle.rules.specs.HandedOver.{AllF64, plate_of, answer_of};
+ghost use Rattle.retrace.specs.RetracePromise.{RetracePromise};
 
 use joining::join_retrace;
 use measure::totals;
@@ -21,18 +18,20 @@ const FIXED_WORK: usize = 16384;
 // parameter: of a field it is not known.
 #[tactic(auto, unfolding(rules::specs::HandedOver::AllF64))]
 fn work_needed(points: &[f64], lengths: &[u32], room: usize) -> usize
-    requires { (length points.now ≤ 131072) × (length lengths.now ≤ 4096) × (room ≤ 1048576) }
-    ensures needed { result ≡ room + 2 * length points.now + 8 * length lengths.now + 16384 }
+    requires points { length points.now ≤ 2 * most_points }
+    requires lengths { length lengths.now ≤ most_contours }
+    requires room { room ≤ most_path_points }
+    ensures needed { result ≡ room + 2 * length points.now + 8 * length lengths.now + fixed_work }
     ensures floats { AllF64 points.now }
 {
     // Two coordinates make a point: 4P is twice their number.
     room + 2 * points.len() + 8 * lengths.len() + FIXED_WORK
 }
 
-// The retrace call: path points with their marks, how many cuts, back-steps, jumps and touches there are, and how long they are. What it finishes divides as the
-// path statement (statement/specs/PathStatement.antt) says, for every plate that has a contour, along it the layers never fall, and its cuts are as long as the
-// contours that were handed over (statement/specs/Quotation.antt). In all that it has written, before refusal 6 too, no path point before a jump or touch is much
-// nearer to its landing than the one that it leaves (statement/specs/HowNear.antt).
+// The retrace call: path points with their marks, how many cuts, back-steps, jumps and touches there are, and how long they are. What it finishes divides
+// as the path statement (statement/specs/PathStatement.antt) says, for every plate that has a contour, along it the layers never fall, and its cuts are as
+// long as the contours that were handed over (statement/specs/Quotation.antt). In all that it has written, before refusal 6 too, no path point before a jump
+// or touch is much nearer to its landing than the one that it leaves (statement/specs/HowNear.antt).
 pub fn retrace_call(
     input: &Input<'_>,
     path: &mut [f64],
@@ -40,15 +39,7 @@ pub fn retrace_call(
     work: &mut [u32],
     distances: &mut [f64],
 ) -> Result<Totals, Refusal>
-    ensures { (let o = retrace_call (plate_of input.now) path.old marks.old (length work.old) (length distances.old) in
-        (answer_of result ≡ o.answer) × (path.new ≡ o.path) × (marks.new ≡ o.marks)
-        × WorkKept o.answer work.old work.new × WorkKept o.answer distances.old distances.new)
-        × (let p = plate_of input.now in
-        (n : Totals) → answer_of result ≡ gives n →
-        (1 ≤ contour_count p → Divides p n (take (2 * n.points) path.new) (take (2 * n.points) marks.new))
-        × NeverFall p n.points (take (2 * n.points) marks.new)
-        × Quoted p n (take (2 * n.points) path.new) (take (2 * n.points) marks.new))
-        × LandingsNear path.new marks.new (written_points (answer_of result)) }
+    ensures { RetracePromise (plate_of input.now) path.old marks.old work.old distances.old (answer_of result) path.new marks.new work.new distances.new }
 {
     let checked = check(input)?;
     let room = (path.len() / 2).min(marks.len() / 2).min(MOST_PATH_POINTS);

@@ -3,13 +3,13 @@ use Rattle.std.specs.Prelude.{◌||◌, ℕ, ◌-◌, ◌≤◌, ◌<◌, max, e
 use Rattle.rules.specs.Tools.{pick}
 use Rattle.rules.specs.GridAndNearest as rules
 use Rattle.rules.specs.declared.SpatialGrid.{SpatialGrid}
-use Rattle.rings.specs.declared.Square.{Square}
+use Rattle.rings.specs.declared.RingSquare.{RingSquare}
 
-unfoldable pub square_of : Square → rules.Square
+unfoldable pub square_of : RingSquare → rules.Square
 square_of s = record { first_col = s.first_col; last_col = s.last_col; first_row = s.first_row; last_row = s.last_row }
 
 -- a square of cells of the grid
-pub record Inside (g : SpatialGrid) (s : Square) : Type 0 where
+pub record Inside (g : SpatialGrid) (s : RingSquare) : Type 0 where
   pub wide : s.first_col ≤ s.last_col
   pub last_col : s.last_col < g.cols
   pub high : s.first_row ≤ s.last_row

@@ -2,25 +2,29 @@
 #![tactic(auto)]
 
 ghost use Rattle.std.specs.Prelude.{◌≡◌, ◌≤◌, ◌<◌};
+ghost use Rattle.rules.specs.Limits.{most_cells_along};
 ghost use Rattle.rules.specs.GridAndNearest as rules-nearest;
 ghost use Rattle.rings.specs.Squares.{square_of, Inside, column_step};
 
-use grid::{Cell, Grid};
+use grid::{Grid, GridCell};
 use rules::{Nearest, SpatialGrid};
 
 #[derive(Clone, Copy)]
-pub struct Square {
+pub struct RingSquare {
     pub first_col: u32,
     pub last_col: u32,
     pub first_row: u32,
     pub last_row: u32,
 }
 
-pub fn square_of(g: Grid, c: Cell, ring: u32) -> Square
-    requires { (c.col < g.spatial.cols) × (c.row < g.spatial.rows) × (ring ≤ 54) }
-    ensures { (square_of result ≡ rules-nearest.square g.spatial (record { col = c.col; row = c.row }) ring) × (Inside g.spatial result) }
+pub fn square_of(g: Grid, c: GridCell, ring: u32) -> RingSquare
+    requires col { c.col < g.spatial.cols }
+    requires row { c.row < g.spatial.rows }
+    requires ring { ring ≤ most_cells_along }
+    ensures square { square_of result ≡ rules-nearest.square g.spatial (record { col = c.col; row = c.row }) ring }
+    ensures inside { Inside g.spatial result }
 {
-    Square {
+    RingSquare {
         first_col: c.col.saturating_sub(ring),
         last_col: (c.col + ring).min(g.spatial.cols - 1),
         first_row: c.row.saturating_sub(ring),
@@ -29,7 +33,7 @@ pub fn square_of(g: Grid, c: Cell, ring: u32) -> Square
 }
 
 // From one border cell of a row to the next: by one along the first and the last row, else from the first column to the last at once.
-pub fn column_step(s: Square, row: u32) -> u32
+pub fn column_step(s: RingSquare, row: u32) -> u32
     requires { s.first_col ≤ s.last_col }
     ensures { result ≡ column_step (square_of s) row }
 {

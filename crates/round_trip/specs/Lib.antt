@@ -1,5 +1,4 @@
-pub mod Kinds
-pub mod Counted
+pub mod LandingCounts
 pub mod Landings
 pub mod Consistent
 pub mod Points

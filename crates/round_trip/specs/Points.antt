@@ -5,15 +5,15 @@ use Rattle.std.proofs.Math.Decide.{dec_le}
 use Rattle.std.specs.Float.{nan}
 use Rattle.rules.specs.Tools.{sum, up_from}
 use Rattle.rules.specs.HandedOver.{Plate, at}
-use Rattle.rules.specs.RetraceAndMarks.{coordinates}
-use Rattle.statement.specs.PathStatement.{vertices_after, vertex_in, Divides}
+use Rattle.rules.specs.Marks.{coordinates, vertices_after, vertex_in}
+use Rattle.statement.specs.PathStatement.{Divides}
 use Rattle.contour_recovery.specs.ContourRecovery.{landed, vertex_count, landing_place, recovered_points}
 use Rattle.rules.specs.declared.Totals.{Totals}
-use Rattle.path.specs.Lists.{All, all_map, all_up_from}
-use Rattle.path.specs.FiniteDistances.{OnPlate}
-use Rattle.path.specs.Accepted.{Accepted, point_on}
+use Rattle.plate_laws.specs.Lists.{All, all_map, all_up_from}
+use Rattle.plate_laws.specs.FiniteDistances.{OnPlate}
+use Rattle.plate_laws.specs.Accepted.{Accepted, point_on}
 use Rattle.recovery_laws.specs.Landed.{lands_there, landed_at, count_above, count_landed, place_lands}
-use Rattle.round_trip.specs.Counted.{landed_counts}
+use Rattle.round_trip.specs.LandingCounts.{landed_counts}
 use Rattle.round_trip.specs.Landings.{vertex_below, landed_once}
 
 -- ---- coordinates of points that are found one by one
@@ -45,7 +45,7 @@ unfolding coordinates
 coordinates_on xs [] on a = tt
 coordinates_on xs (v ∷ vs) on a = let (x, y) = point_on xs v on a.0 in (x, (y, coordinates_on xs vs on a.1))
 
-module _ (p : Plate) (c : Totals) (path : List Float) (ms : List ℕ) (d : Divides p c path ms) (accepted : Accepted p.points p.lengths) where
+module _ {p : Plate} {c : Totals} {path : List Float} {ms : List ℕ} (d : Divides p c path ms) (accepted : Accepted p.points p.lengths) where
   abbrev n : ℕ
   n = c.points
 
@@ -56,7 +56,7 @@ module _ (p : Plate) (c : Totals) (path : List Float) (ms : List ℕ) (d : Divid
   m = sum p.lengths
 
   pub all_landed : (u : ℕ) → u < m → landed ms vs n u ≡ true
-  all_landed u l = rw (landed_counts ms vs u n, landed_once p c path ms d u l) refl
+  all_landed u l = rw (landed_counts ms vs u n, landed_once d u l) refl
 
   -- the highest vertex landed on is the plate's last
   pub count_is : vertex_count ms vs n ≡ m
@@ -68,7 +68,7 @@ module _ (p : Plate) (c : Totals) (path : List Float) (ms : List ℕ) (d : Divid
       go zero e (no none) = omega (arith, none)
       go (suc u) e some =
           let (j, l, t) = landed_at ms vs u n (count_landed ms vs u n e) in
-          let below : u < m = omega (arith, vertex_below p c path ms d j l, lands_there ms vs j u t) in
+          let below : u < m = omega (arith, vertex_below d j l, lands_there ms vs j u t) in
           omega (arith, e, below, count_above ms vs (m - 1) n (all_landed (m - 1) (omega (arith, below))))
 
   pub points_are : recovered_points path ms vs n m ≡ p.points
@@ -84,7 +84,7 @@ module _ (p : Plate) (c : Totals) (path : List Float) (ms : List ℕ) (d : Divid
   pub path_on : All OnPlate path
   path_on =
       let v : ℕ → ℕ = vertex_in ms in
-      let same = points_found p.points path v n d.whole.0 (λ k l. sym (d.coordinates k l)) in
+      let same = points_found p.points path v n d.whole (λ k l. sym (d.coordinates k l)) in
       let inside = all_up_from (λ k. 2 * v k + 1 < length p.points) 0 n
-      (λ k a b. omega (arith, b, vertex_below p c path ms d k (omega (arith, b)), accepted.counted)) in
+      (λ k a b. omega (arith, b, vertex_below d k (omega (arith, b)), accepted.counted)) in
       subst (All OnPlate) same (coordinates_on p.points (map v (up_from 0 n)) accepted.on_plate (all_map _ v (up_from 0 n) inside))

@@ -6,7 +6,7 @@
 --   round_trip_by_rules so does the path that the documents' rules give an accepted plate, however long it is;
 --   divided_recovers    so does every path that divides as the path statement says, of a plate that refusals 1 to 4 let pass.
 --
--- That each vertex is landed on once is in Landings, over Counted; the rules of marks in Consistent; the points in Points and the lengths in Lengths. Assumes
+-- That each vertex is landed on once is in Landings, over LandingCounts; the rules of marks in Consistent; the points in Points and the lengths in Lengths. Assumes
 -- nothing.
 use Rattle.std.specs.Prelude.{◌≡◌, refl, true, List, [], map, ℕ, suc, ◌*◌, ◌/◌, ◌≤◌, ◌<◌, length, Float}
 use Rattle.std.proofs.Common.{sym, ap, ◌∙◌, arith, le-ltb, eq-eqb}
@@ -14,22 +14,24 @@ use Rattle.std.proofs.Math.Decide.{dec_le}
 use Rattle.std.proofs.lemmas.List.{length-map}
 use Rattle.rules.specs.Tools.{pick, sum, first_failing}
 use Rattle.rules.specs.HandedOver.{retrace_room, Plate, Contour, plate_limit, first_off, contours, refused_by, out_of_range, off_the_plate, work_short, no_room, written}
-use Rattle.rules.specs.RetraceAndMarks.{retrace, coordinates, marks}
-use Rattle.rules.specs.Calls.{totals, path_totals, vertices, retrace_call}
-use Rattle.statement.specs.PathStatement.{contour_count, vertices_after, Divides}
+use Rattle.rules.specs.Retrace.{retrace}
+use Rattle.rules.specs.Marks.{coordinates, marks, vertices, vertices_after}
+use Rattle.rules.specs.Calls.{totals, path_totals, retrace_call}
+use Rattle.statement.specs.PathStatement.{Divides}
+use Rattle.rules.specs.Contours.{contour_count}
 use Rattle.statement.specs.PathCheck.{miscounted_path}
 use Rattle.statement.specs.HowNear.{IsAccepted}
 use Rattle.contour_recovery.specs.ContourRecovery.{landed, consistent, vertex_count, recovered_points, runs, recovered_lengths, marks_inconsistent, vertex_missing, recovery_call, GivesBack, RoundTripByRules, RoundTrip}
 use Rattle.rules.specs.declared.Totals.{Totals}
-use Rattle.path.specs.Lists.{All, empty}
-use Rattle.path.specs.FiniteDistances.{OnPlate}
-use Rattle.path.specs.Accepted.{Accepted, first_on, input_gives, accepted_measurable}
-use Rattle.path.specs.Start.{AllTakePart, layered_part}
-use Rattle.path.specs.Contours.{sum_segments}
+use Rattle.plate_laws.specs.Lists.{All, empty}
+use Rattle.plate_laws.specs.FiniteDistances.{OnPlate}
+use Rattle.plate_laws.specs.Accepted.{Accepted, first_on, input_gives, accepted_measurable}
+use Rattle.plate_laws.specs.Start.{AllTakePart, layered_part}
+use Rattle.plate_laws.specs.Contours.{sum_segments}
 use Rattle.path.specs.Theorem.{retrace_divides, retrace_gives, slice_after}
-use Rattle.path.specs.Slices.{coordinates_length, vertices_length, marks_length}
+use Rattle.plate_laws.specs.Slices.{coordinates_length, vertices_length, marks_length}
 use Rattle.path.specs.Blank.{retrace_empty}
-use Rattle.division.specs.Rules.{none_failing}
+use Rattle.division_laws.specs.Rules.{none_failing}
 use Rattle.round_trip.specs.Consistent.{divides_consistent}
 use Rattle.round_trip.specs.Points.{all_landed, count_is, points_are, path_on}
 use Rattle.round_trip.specs.Lengths.{lengths_are}
@@ -79,13 +81,13 @@ divided_found : (p : Plate) (c : Totals) (path : List Float) (ms : List ℕ) →
     Found p c.points path ms
 divided_found p c path ms a d =
     record {
-      whole = d.whole;
-      on_plate = path_on p c path ms d a;
-      rules = divides_consistent p c path ms d a.points;
-      count = count_is p c path ms d a;
-      landed = all_landed p c path ms d a;
-      points = points_are p c path ms d a;
-      lengths = lengths_are p c path ms d;
+      whole = (d.whole, d.division.whole);
+      on_plate = path_on d a;
+      rules = divides_consistent d a.points;
+      count = count_is d a;
+      landed = all_landed d a;
+      points = points_are d a;
+      lengths = lengths_are d;
     }
 
 -- with no contour there is no path point

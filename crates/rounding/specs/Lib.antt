@@ -12,8 +12,8 @@ pub mod Wide
 pub mod Pack
 pub mod SquareSum
 pub mod SquareRoot
-pub mod Truncated
-pub mod Ceiling
+pub mod TruncatedCast
+pub mod CeilingCast
 pub mod Finite
 pub mod Range
 pub mod Remainder

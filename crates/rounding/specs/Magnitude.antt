@@ -63,10 +63,10 @@ abbrev digits_of : ℕ → ℕ → ℕ
 digits_of zero t = t
 digits_of (suc e) t = 4503599627370496 + t
 
-abbrev Says : Float → ℕ → ℕ → Type 0
-Says x e t = Equals x (digits_of e t * 2 ^ (e - 1)) (2 ^ 1074) × (e ≡ 2047 → ⊥)
+abbrev HasFields : Float → ℕ → ℕ → Type 0
+HasFields x e t = Equals x (digits_of e t * 2 ^ (e - 1)) (2 ^ 1074) × (e ≡ 2047 → ⊥)
 
-says : (s : Bool) (e t : ℕ) → T (finite (of_fields binary64 s e t)) → Says (of_fields binary64 s e t) e t
+says : (s : Bool) (e t : ℕ) → T (finite (of_fields binary64 s e t)) → HasFields (of_fields binary64 s e t) e t
 unfolding of_fields
 says s zero t h = (odd_val 53 s t 0 1074, not_2047)
   where
@@ -81,7 +81,7 @@ says s (suc x) t h = go (eqb (suc x) 2047) (eqb t 0) (back x) h
     minus_one x = omega arith
 
     go : (b z : Bool) → (suc x ≡ 2047 → T b) → T (finite (cond b (cond z (inf s) nan) (odd 53 s (4503599627370496 + t) x 1074)))
-        → Says (cond b (cond z (inf s) nan) (odd 53 s (4503599627370496 + t) x 1074)) (suc x) t
+        → HasFields (cond b (cond z (inf s) nan) (odd 53 s (4503599627370496 + t) x 1074)) (suc x) t
     go true true n h = absurd h
     go true false n h = absurd h
     go false z n h = (subst (λ (y : ℕ). Equals (odd 53 s (4503599627370496 + t) x 1074) ((4503599627370496 + t) * 2 ^ y) (2 ^ 1074)) (sym (minus_one x)) (odd_val 53 s (4503599627370496 + t) x 1074), n)
@@ -91,14 +91,14 @@ unfolding odd
 odd_sign_of d s zero k l = refl
 odd_sign_of d s (suc q) k l = refl
 
-read : (x : Float) → T (fits binary64 x) → T (finite x) → Says x (body x / 4503599627370496) (body x % 4503599627370496)
+read : (x : Float) → T (fits binary64 x) → T (finite x) → HasFields x (body x / 4503599627370496) (body x % 4503599627370496)
 unfolding of_bits
 read x held h =
     let b = to_bits binary64 x in
     let m : b % 4503599627370496 ≡ body x % 4503599627370496 = omega arith in
     let is : of_fields binary64 (leb 9223372036854775808 b) (body x / 4503599627370496) (body x % 4503599627370496) ≡ x =
     ap (λ (t : ℕ). of_fields binary64 (leb 9223372036854775808 b) (body x / 4503599627370496) t) (sym m) ∙ of_bits-to_bits binary64 x held in
-    subst (λ (v : Float). Says v (body x / 4503599627370496) (body x % 4503599627370496)) is
+    subst (λ (v : Float). HasFields v (body x / 4503599627370496) (body x % 4503599627370496)) is
     (says (leb 9223372036854775808 b) (body x / 4503599627370496) (body x % 4503599627370496) (subst (λ (v : Float). T (finite v)) (sym is) h))
 
 -- the first bit is the sign

@@ -48,7 +48,13 @@ shift_rounds q t cut h =
 
 -- ---- `round_pack`
 
-pub digits_of : (q : ℕ) → 2 ^ 53 ≤ q → q < 2 ^ 63 → (54 ≤ digits q) × (count_leading_zeros 64 q ≤ 10) × (q < 2 ^ digits q) × (2 ^ (digits q - 1) ≤ q)
+pub record HasDigits (q : ℕ) : Type 0 where
+  pub many : 54 ≤ digits q
+  pub zeros : count_leading_zeros 64 q ≤ 10
+  pub below : q < 2 ^ digits q
+  pub least : 2 ^ (digits q - 1) ≤ q
+
+pub digits_of : (q : ℕ) → 2 ^ 53 ≤ q → q < 2 ^ 63 → HasDigits q
 digits_of q L H =
     let t = leading_top 64 q (lt_of_lt_of_le (pow_pos 53) L) (lt_of_lt_of_le H (pow_mono {i = 63} {j = 64} (omega arith))) in
     let j = t.0 in
@@ -56,7 +62,7 @@ digits_of q L H =
     let a : 53 < suc j = pow_lt_back 53 (suc j) (lt_of_le_of_lt L t.3) in
     let s : suc j ≡ digits q = omega arith in
     let p : j ≡ digits q - 1 = omega arith in
-    (omega arith, omega arith, subst (λ (x : ℕ). q < 2 ^ x) s t.3, subst (λ (x : ℕ). 2 ^ x ≤ q) p t.2)
+    record { many = omega arith; zeros = omega arith; below = subst (λ (x : ℕ). q < 2 ^ x) s t.3; least = subst (λ (x : ℕ). 2 ^ x ≤ q) p t.2 }
 
 pub ulp_few : (z e k : ℕ) → UlpExponent z e k → z ≤ 64 → e ≤ 5000 → k ≤ 3809
 ulp_few z e k p h g = go p.least
@@ -75,14 +81,14 @@ module _ (q t e k : ℕ) (L : 2 ^ 53 ≤ q) (H : q < 2 ^ 63) (T1 : t ≤ 1) (K :
 
   y_lt : y < 2 * 2 ^ digits q
   unfolding y
-  y_lt = omega (arith, (digits_of q L H).2)
+  y_lt = omega (arith, (digits_of q L H).below)
 
   y_ge : 2 * 2 ^ (digits q - 1) ≤ y
   unfolding y
-  y_ge = omega (arith, (digits_of q L H).3)
+  y_ge = omega (arith, (digits_of q L H).least)
 
   pub cut_fits : e < k + 1202
-  cut_fits = omega (arith, K.most, (digits_of q L H).0)
+  cut_fits = omega (arith, K.most, (digits_of q L H).many)
 
   den_pos : 0 < 2 * 2 ^ 2276
   den_pos = mul-pos (zero-lt-suc 1) (pow_pos 2276)
@@ -114,7 +120,7 @@ module _ (q t e k : ℕ) (L : 2 ^ 53 ≤ q) (H : q < 2 ^ 63) (T1 : t ≤ 1) (K :
       go (inl h) = inl h
       go (inr h) =
           inr (le_trans (le_of_eq (sym (turn (2 ^ (52 + k)) (2 ^ 2276) (2 ^ (52 + k + 2276)) (pow-add 2 (52 + k) 2276))))
-          (le_trans (mul-le-mul_left 2 (pow_mono (low_end (digits q) e k (digits_of q L H).0 h)))
+          (le_trans (mul-le-mul_left 2 (pow_mono (low_end (digits q) e k (digits_of q L H).many h)))
           (le_trans (le_of_eq (sym (group (2 ^ (digits q - 1)) (2 ^ e) (2 ^ 1074) (2 ^ (digits q - 1 + e)) (2 ^ (digits q - 1 + e + 1074)) (pow-add 2 (digits q - 1) e) (pow-add 2 (digits q - 1 + e) 1074))))
           (mul-le-mul_right (2 ^ 1074) (mul-le-mul_right (2 ^ e) y_ge)))))
 

@@ -104,23 +104,28 @@ sub_upto B (fin s m e) (fin t n d) b h g = sum_upto s (m * up e * down d) (not t
 
 -- ---- a square, and a square plus a number: neither is negative
 
+-- x is at most 2^B and not negative
+pub record PlusUpto (B : ℕ) (x : Float) : Type 0 where
+  pub upto : Upto B x
+  pub plus : T (non_negative x)
+
 square_size : (B U de : ℕ) → U ≤ 2 ^ B * de → U * U ≤ 2 ^ (B + B) * (de * de)
 square_size B U de h = le_trans (mul-le-mul h h) (le_of_eq (squares (2 ^ B) de ∙ ap (λ (x : ℕ). x * (de * de)) (sym (pow-add 2 B B))))
   where
     squares : (p d : ℕ) → p * d * (p * d) ≡ p * p * (d * d)
     squares p d = omega arith
 
-pub square_upto : (B : ℕ) (x : Float) → B + B < 1000 → Upto B x → Upto (suc (B + B)) (mul binary64 x x) × T (non_negative (mul binary64 x x))
+pub square_upto : (B : ℕ) (x : Float) → B + B < 1000 → Upto B x → PlusUpto (suc (B + B)) (mul binary64 x x)
 square_upto B nan b h = absurd h
 square_upto B (inf s) b h = absurd h
 square_upto B (fin s m e) b h =
     let u = m * up e in
     let d = down e * down e in
-    subst (λ (v : Float). Upto (suc (B + B)) v × T (non_negative v)) (sym (mul_opened s m e))
-    (round_upto false (u * u) d (B + B) (mul-pos (down_pos e) (down_pos e)) (square_size B u (down e) h) b, round_non_negative (u * u) d (B + B) (mul-pos (down_pos e) (down_pos e)) (square_size B u (down e) h) b)
+    subst (PlusUpto (suc (B + B))) (sym (mul_opened s m e))
+    (record { upto = round_upto false (u * u) d (B + B) (mul-pos (down_pos e) (down_pos e)) (square_size B u (down e) h) b; plus = round_non_negative (u * u) d (B + B) (mul-pos (down_pos e) (down_pos e)) (square_size B u (down e) h) b })
 
 pub square_plus_upto : (B : ℕ) (x y : Float) → suc (suc (B + B)) < 1000 → Upto B x → Upto (suc (B + B)) y → T (non_negative y)
-    → Upto (suc (suc (suc (B + B)))) (mul_add binary64 x x y) × T (non_negative (mul_add binary64 x x y))
+    → PlusUpto (suc (suc (suc (B + B)))) (mul_add binary64 x x y)
 square_plus_upto B nan y b h g p = absurd h
 square_plus_upto B (inf s) y b h g p = absurd h
 square_plus_upto B (fin s m e) nan b h g p = absurd g
@@ -131,8 +136,8 @@ square_plus_upto B (fin s m e) (fin false n d) b h g p =
     let C : 0 < down e * down e * down d = mul-pos (mul-pos (down_pos e) (down_pos e)) (down_pos d) in
     let most : u * u * down d + n * up d * (down e * down e) ≤ 2 ^ suc (suc (B + B)) * (down e * down e * down d) =
     both (suc (B + B)) (u * u) (n * up d) (down e * down e) (down d) (le_trans (square_size B u (down e) h) (mul-le-mul_right (down e * down e) (pow_mono (self (B + B))))) g in
-    subst (λ (v : Float). Upto (suc (suc (suc (B + B)))) v × T (non_negative v)) (sym (mul_add_opened s m e n d))
-    (round_upto false (u * u * down d + n * up d * (down e * down e)) (down e * down e * down d) (suc (suc (B + B))) C most b, round_non_negative (u * u * down d + n * up d * (down e * down e)) (down e * down e * down d) (suc (suc (B + B))) C most b)
+    subst (PlusUpto (suc (suc (suc (B + B))))) (sym (mul_add_opened s m e n d))
+    (record { upto = round_upto false (u * u * down d + n * up d * (down e * down e)) (down e * down e * down d) (suc (suc (B + B))) C most b; plus = round_non_negative (u * u * down d + n * up d * (down e * down e)) (down e * down e * down d) (suc (suc (B + B))) C most b })
   where
     self : (B : ℕ) → B ≤ suc B
     self B = omega arith

@@ -28,7 +28,7 @@ pub record IsRemainder (t s r : Float) : Type 0 where
 -- ---- remainders of whole numbers
 
 -- both numbers c times as large
-scaled : (a b c : ℕ) → 0 < b → 0 < c → a * c % (b * c) ≡ a % b * c
+pub scaled : (a b c : ℕ) → 0 < b → 0 < c → a * c % (b * c) ≡ a % b * c
 scaled a b c B C = mod-mul (a * c) B C ∙ rest (mul-div_cancel a C) (mul-mod_left a c)
   where
     rest : a * c / c ≡ a → a * c % c ≡ 0 → a * c / c % b * c + a * c % c ≡ a % b * c
@@ -53,7 +53,7 @@ rest_below s e g p d r G h f = lt_of_mul-lt-mul_right e (lt_of_le_of_lt (le_of_e
 -- ---- in units of 2^-1074
 
 -- at most 53 digits, then zeros
-record Short (r : ℕ) : Type 0 where
+record FewDigits (r : ℕ) : Type 0 where
   significand : ℕ
   exponent : ℕ
   value : r ≡ significand * 2 ^ exponent
@@ -68,10 +68,10 @@ lifted n i j h = ap (λ (x : ℕ). n * x) (ap (λ (x : ℕ). 2 ^ x) (sym (apart 
     apart i j h = omega arith
 
 module _ (a i b j : ℕ) (A : a < 2 ^ 53) (B : b < 2 ^ 53) (P : 0 < b) (I : i ≤ 2045) (J : j ≤ 2045) where
-  short : Short (a * 2 ^ i % (b * 2 ^ j))
+  short : FewDigits (a * 2 ^ i % (b * 2 ^ j))
   short = go (dec_lt i j)
     where
-      go : Dec (i < j) → Short (a * 2 ^ i % (b * 2 ^ j))
+      go : Dec (i < j) → FewDigits (a * 2 ^ i % (b * 2 ^ j))
       go (yes h) =
           record {
             significand = a % (b * 2 ^ (j - i));
@@ -151,7 +151,7 @@ module _ (m : ℕ) (e : ℤ) (n : ℕ) (d : ℤ) (N : 0 < n) where
             turn : (b d e : ℕ) → b * d * e ≡ b * (e * d)
             turn b d e = omega arith
 
-    rounds : Short (A % B) → HasValue (round binary64 false (X % Y) D) false (X % Y) D
+    rounds : FewDigits (A % B) → HasValue (round binary64 false (X % Y) D) false (X % Y) D
     rounds h =
         let places : 53 + h.exponent ≤ 2098 = omega (arith, h.range) in
         round_exact binary64 false (X % Y) D h.significand h.exponent D_pos h.small

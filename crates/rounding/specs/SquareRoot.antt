@@ -19,6 +19,10 @@ use Rattle.rounding.specs.Pack.{rounded_from}
 
 -- ---- the radicand: a significand of 61 digits, doubled where its exponent is odd
 
+pub record Between (low high n : ℕ) : Type 0 where
+  pub least : low ≤ n
+  pub below : n < high
+
 doubled_lt : (a x : ℕ) → a < 2 ^ 61 → a * 2 ^ (x % 2) < 2 ^ 62
 doubled_lt a x h = lt_of_le_of_lt (mul-le-mul {m₁ = 2 ^ (x % 2)} {m₂ = 2 ^ 1} (le_of_eq refl) (pow_mono (one_at_most x))) (twice a h)
   where
@@ -34,8 +38,9 @@ doubled a x h = mod-eq_of_lt (lt_of_lt_of_le (doubled_lt a x h) (lit≤ {m = 2 ^
 doubled_ge : (a x : ℕ) → 2 ^ 60 ≤ a → 2 ^ 60 ≤ a * 2 ^ (x % 2)
 doubled_ge a x h = le_trans h (le_trans (le_of_eq (sym (mul-one a))) (mul-le-mul {n₁ = a} (le_of_eq refl) (pow_pos (x % 2))))
 
-pub radicand_range : (a x : ℕ) → 2 ^ 60 ≤ a → a < 2 ^ 61 → (2 ^ 60 ≤ a * 2 ^ (x % 2) % 18446744073709551616) × (a * 2 ^ (x % 2) % 18446744073709551616 < 2 ^ 62)
-radicand_range a x h l = (le_trans (doubled_ge a x h) (le_of_eq (sym (doubled a x l))), lt_of_le_of_lt (le_of_eq (doubled a x l)) (doubled_lt a x l))
+pub radicand_range : (a x : ℕ) → 2 ^ 60 ≤ a → a < 2 ^ 61 → Between (2 ^ 60) (2 ^ 62) (a * 2 ^ (x % 2) % 18446744073709551616)
+radicand_range a x h l =
+    record { least = le_trans (doubled_ge a x h) (le_of_eq (sym (doubled a x l))); below = lt_of_le_of_lt (le_of_eq (doubled a x l)) (doubled_lt a x l) }
 
 -- ---- the root
 
@@ -64,8 +69,8 @@ module _ (a x r : ℕ) (A : 2 ^ 60 ≤ a) (B : a < 2 ^ 61) (I : IsRoot (a * 2 ^ 
   unfolding n
   isr = subst (λ (z : ℕ). IsRoot (z * 2 ^ 48) r) (doubled a x B) I
 
-  pub root_range : (2 ^ 54 ≤ r) × (r < 2 ^ 55)
-  root_range = (root_ge (n * 2 ^ 48) r (2 ^ 54) isr low, root_lt (n * 2 ^ 48) r (2 ^ 55) isr high)
+  pub root_range : Between (2 ^ 54) (2 ^ 55) r
+  root_range = record { least = root_ge (n * 2 ^ 48) r (2 ^ 54) isr low; below = root_lt (n * 2 ^ 48) r (2 ^ 55) isr high }
 
   scaled : (U de : ℕ) → U * 2 ^ 1138 ≡ a * 2 ^ x * de → U * (2 ^ 2276 * 2 ^ 2276) ≡ n * 2 ^ 48 * (2 ^ (x / 2 + 1683) * 2 ^ (x / 2 + 1683)) * de
   unfolding n

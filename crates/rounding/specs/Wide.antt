@@ -62,7 +62,14 @@ square_lt s h = lt_of_le_of_lt (mul-le-mul (below s h) (below s h)) (lit< {m = 2
 pub square_ge : (s : ℕ) → 2 ^ 60 ≤ s → 2 ^ 56 * 18446744073709551616 ≤ s * s
 square_ge s h = le_trans (lit≤ {m = 2 ^ 56 * 18446744073709551616} {n = 2 ^ 60 * 2 ^ 60} tt) (mul-le-mul h h)
 
--- ---- a shift by d, at most 64
+-- ---- a shift by d
+
+-- q is what a shift of n by d to the right leaves, t the sticky bit of what it cuts off
+pub record IsShifted (n d q t : ℕ) : Type 0 where
+  pub value : q ≡ n / 2 ^ d
+  pub sticky : t ≡ sticky_bit (n % 2 ^ d)
+
+-- ---- by at most 64
 
 module _ (hi lo d : ℕ) (H : hi < 2 ^ 64) (L : lo < 2 ^ 64) (D : d ≤ 64) where
   P : ℕ
@@ -113,13 +120,13 @@ module _ (hi lo d : ℕ) (H : hi < 2 ^ 64) (L : lo < 2 ^ 64) (D : d ≤ 64) wher
   shift_fits = subst (λ (x : ℕ). x + lo / P < 2 ^ 64) (sym moved) up_lt
 
   pub shift_is : (r : ℕ) → r ≡ sticky_bit (lo - lo / 2 ^ d * 2 ^ d % 18446744073709551616)
-      → (wide (hi / 2 ^ d) ((hi - hi / 2 ^ d * 2 ^ d % 18446744073709551616) * 2 ^ (64 - d) % 18446744073709551616 + lo / 2 ^ d) ≡ wide hi lo / 2 ^ d)
-      × (r ≡ sticky_bit (wide hi lo % 2 ^ d))
+      → IsShifted (wide hi lo) d (wide (hi / 2 ^ d) ((hi - hi / 2 ^ d * 2 ^ d % 18446744073709551616) * 2 ^ (64 - d) % 18446744073709551616 + lo / 2 ^ d)) r
   unfolding P
-  shift_is r e = (
-    ap (λ (x : ℕ). wide (hi / P) (x + lo / P)) moved ∙ sym (ap (λ (x : ℕ). x / P) whole ∙ digits_div (hi / P * 2 ^ 64 + (hi % P * Q + lo / P)) (mod-lt lo P_pos)),
-    e ∙ ap sticky_bit (shifted_out lo d L ∙ sym (ap (λ (x : ℕ). x % P) whole ∙ digits_mod (hi / P * 2 ^ 64 + (hi % P * Q + lo / P)) (mod-lt lo P_pos))),
-  )
+  shift_is r e =
+      record {
+        value = ap (λ (x : ℕ). wide (hi / P) (x + lo / P)) moved ∙ sym (ap (λ (x : ℕ). x / P) whole ∙ digits_div (hi / P * 2 ^ 64 + (hi % P * Q + lo / P)) (mod-lt lo P_pos));
+        sticky = e ∙ ap sticky_bit (shifted_out lo d L ∙ sym (ap (λ (x : ℕ). x % P) whole ∙ digits_mod (hi / P * 2 ^ 64 + (hi % P * Q + lo / P)) (mod-lt lo P_pos)));
+      }
 
 pub unshifted : (n d : ℕ) → d ≡ 0 → (n ≡ n / 2 ^ d) × (0 ≡ sticky_bit (n % 2 ^ d))
 unshifted n d e = subst (λ (x : ℕ). (n ≡ n / 2 ^ x) × (0 ≡ sticky_bit (n % 2 ^ x))) (sym e) (omega arith, sym (bit_zero (n % 1) (omega arith)))
@@ -143,7 +150,7 @@ far_rest hi lo g L =
 
 -- the upper half shifted by d - 64, and the lower one gone
 pub shift_far : (hi lo d ch cl cr t r : ℕ) → hi < 2 ^ 64 → lo < 2 ^ 64 → 64 ≤ d → wide ch cl ≡ (0 + hi) / 2 ^ (d - 64) → cr ≡ sticky_bit ((0 + hi) % 2 ^ (d - 64)) → t ≡ sticky_bit lo → r ≡ sticky_bit (cr + t)
-    → (0 + cl ≡ wide hi lo / 2 ^ d) × (r ≡ sticky_bit (wide hi lo % 2 ^ d))
+    → IsShifted (wide hi lo) d (0 + cl) r
 shift_far hi lo d ch cl cr t r H L D W C E R =
     let g = d - 64 in
     let z : 0 + hi ≡ hi = omega arith in
@@ -151,17 +158,19 @@ shift_far hi lo d ch cl cr t r H L D W C E R =
     let w : wide ch cl ≡ hi / 2 ^ g = W ∙ ap (λ (x : ℕ). x / 2 ^ g) z in
     let small : hi / 2 ^ g ≤ hi = div-le_self hi (2 ^ g) in
     let cl_is : 0 + cl ≡ hi / 2 ^ g = omega arith in
-    let c_is : cr ≡ sticky_bit (hi % 2 ^ g) = C ∙ ap (λ (x : ℕ). sticky_bit (x % 2 ^ g)) z in (
-      cl_is ∙ far_whole hi lo g L ∙ ap (λ (x : ℕ). wide hi lo / 2 ^ x) gd,
-      R ∙ ap₂ (λ (a b : ℕ). sticky_bit (a + b)) c_is E ∙ sym (bit_two (hi % 2 ^ g) lo (2 ^ 64) (pow_pos 64)) ∙ ap sticky_bit (far_rest hi lo g L) ∙ ap (λ (x : ℕ). sticky_bit (wide hi lo % 2 ^ x)) gd,
-    )
+    let c_is : cr ≡ sticky_bit (hi % 2 ^ g) = C ∙ ap (λ (x : ℕ). sticky_bit (x % 2 ^ g)) z in
+    record {
+      value = cl_is ∙ far_whole hi lo g L ∙ ap (λ (x : ℕ). wide hi lo / 2 ^ x) gd;
+      sticky = R ∙ ap₂ (λ (a b : ℕ). sticky_bit (a + b)) c_is E ∙ sym (bit_two (hi % 2 ^ g) lo (2 ^ 64) (pow_pos 64)) ∙ ap sticky_bit (far_rest hi lo g L) ∙ ap (λ (x : ℕ). sticky_bit (wide hi lo % 2 ^ x)) gd;
+    }
 
 -- nothing is left
 pub shift_all : (hi lo d a b r : ℕ) → hi < 2 ^ 64 → lo < 2 ^ 64 → 128 ≤ d → a ≡ sticky_bit hi → b ≡ sticky_bit lo → r ≡ sticky_bit (a + b)
-    → (0 ≡ wide hi lo / 2 ^ d) × (r ≡ sticky_bit (wide hi lo % 2 ^ d))
+    → IsShifted (wide hi lo) d 0 r
 shift_all hi lo d a b r H L D A B R =
     let all : 2 ^ 128 ≤ 2 ^ d = pow_mono D in
-    let small : wide hi lo < 2 ^ d = lt_of_lt_of_le (digits_lt H L) (le_trans (le_of_eq (sym (pow-add 2 64 64))) all) in (
-      sym (div-eq_of_lt small),
-      R ∙ ap₂ (λ (x y : ℕ). sticky_bit (x + y)) A B ∙ sym (bit_two hi lo (2 ^ 64) (pow_pos 64)) ∙ ap sticky_bit (sym (mod-eq_of_lt small)),
-    )
+    let small : wide hi lo < 2 ^ d = lt_of_lt_of_le (digits_lt H L) (le_trans (le_of_eq (sym (pow-add 2 64 64))) all) in
+    record {
+      value = sym (div-eq_of_lt small);
+      sticky = R ∙ ap₂ (λ (x y : ℕ). sticky_bit (x + y)) A B ∙ sym (bit_two hi lo (2 ^ 64) (pow_pos 64)) ∙ ap sticky_bit (sym (mod-eq_of_lt small));
+    }

@@ -11,7 +11,7 @@ same_exponent (negsuc a) (pos b) = false
 same_exponent (negsuc a) (negsuc b) = eqb a b
 
 -- The same float, 0 and −0 being two. A number of an f64 is written in one way, so two of these are the same exactly if their bits are (`same_bits`,
--- division/specs/SameBits.antt). All NaNs are one here. Which bits a NaN has cannot count: it is no vertex of an accepted plate, so the first path point that
+-- division_laws/specs/SameBits.antt). All NaNs are one here. Which bits a NaN has cannot count: it is no vertex of an accepted plate, so the first path point that
 -- has one breaks a rule.
 unfoldable pub same_float : Float → Float → Bool
 same_float nan nan = true

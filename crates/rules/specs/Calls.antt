@@ -1,10 +1,11 @@
 -- What each call answers, and what its output slices hold afterwards: the refusals in their order, then the result. Definitions only.
-use Rattle.std.specs.Prelude.{ℕ, Bool, List, [], ◌∷◌, map, length, Float}
+use Rattle.std.specs.Prelude.{ℕ, Bool, List, [], ◌∷◌, length, Float}
 use Rattle.std.proofs.Math.Option.{Option, none, some}
 use Rattle.rules.specs.HandedOver.{Plate, order_room, straight_room, retrace_room, Answer, gives, refuses, distance_limit, refused_by, out_of_range, plate_rows, order_rows, retrace_rows, after}
 use Rattle.rules.specs.Distances.{distance_squared, distance}
 use Rattle.rules.specs.Start.{Oriented, start}
-use Rattle.rules.specs.RetraceAndMarks.{cut_kind, back_step_kind, jump_kind, touch_kind, Step, retrace, coordinates, marks, marks_of}
+use Rattle.rules.specs.Retrace.{retrace}
+use Rattle.rules.specs.Marks.{cut_kind, back_step_kind, jump_kind, touch_kind, Step, coordinates, marks, marks_of, vertices}
 use Rattle.rules.specs.Lengths.{is_cut, is_back_step, is_jump_or_touch, length_along}
 use Rattle.rules.specs.OrderAndStraight.{order, entries, straight}
 use Rattle.rules.specs.declared.Point.{Point}
@@ -60,10 +61,6 @@ totals n xs ms =
       back_step_length = length_along is_back_step n xs ms;
       jump_length = length_along is_jump_or_touch n xs ms;
     }
-
--- the vertices of the path points
-unfoldable pub vertices : List Step → List ℕ
-vertices path = map (λ s. s.vertex) path
 
 -- the totals of a plate's path
 unfoldable pub path_totals : Plate → List Step → Totals

@@ -4,6 +4,7 @@ use Rattle.std.specs.Prelude.{◌≡◌, ℕ, zero, suc, ◌+◌, ◌*◌, ◌/�
 use Rattle.std.specs.Float.{nan, fin, binary64}
 use Rattle.std.specs.Float.Ieee.{fits, neg, le}
 use Rattle.rules.specs.Tools.{pick, sum, highest_layer}
+use Rattle.rules.specs.Limits.{most_contours, most_points, most_path_points, fixed_work}
 use Rattle.rules.specs.Box.{box}
 use Rattle.rules.specs.declared.Point.{Point}
 use Rattle.rules.specs.declared.BoundingBox.{BoundingBox}
@@ -79,10 +80,6 @@ unfoldable pub layer_at : Plate → Contour → ℕ
 layer_at p c = get_or p.layers c.number 0
 
 -- ---- C, by the lengths of the output slices
-
--- how many points a path may have
-abbrev pub most_path_points : ℕ
-most_path_points = 1048576
 
 unfoldable pub order_room : ℕ → ℕ
 order_room order = order / 2
@@ -176,10 +173,10 @@ refused_by [] answer = answer
 refused_by (r ∷ rs) answer = pick r.test (refuses r.number r.place) (refused_by rs answer)
 
 unfoldable pub too_many_contours : List ℕ → RefusalRow
-too_many_contours ns = row (ltb 4096 (length ns)) 1 0
+too_many_contours ns = row (ltb most_contours (length ns)) 1 0
 
 unfoldable pub too_many_points : List ℕ → RefusalRow
-too_many_points ns = row (ltb 65536 (sum ns)) 2 0
+too_many_points ns = row (ltb most_points (sum ns)) 2 0
 
 unfoldable pub miscounted : List Float → List ℕ → RefusalRow
 miscounted xs ns = row (not (eqb (length xs) (2 * sum ns))) 3 0
@@ -240,7 +237,7 @@ unfoldable pub order_rows : Plate → ℕ → ℕ → ℕ → List RefusalRow
 order_rows p w c n = plate_rows p ++ (work_short w (length p.lengths) 0 ∷ full c n ∷ [])
 
 unfoldable pub retrace_work : Plate → ℕ → ℕ
-retrace_work p c = c + 4 * sum p.lengths + 8 * length p.lengths + 16384
+retrace_work p c = c + 4 * sum p.lengths + 8 * length p.lengths + fixed_work
 
 unfoldable pub retrace_rows : Plate → ℕ → ℕ → ℕ → ℕ → List RefusalRow
 retrace_rows p w d c n = plate_rows p ++ (work_short w (retrace_work p c) 0 ∷ work_short d (length p.lengths) 1 ∷ full c n ∷ [])

@@ -6,7 +6,7 @@ use Rattle.std.specs.Float.Ieee.{up, down}
 use Rattle.rules.specs.Tools.{pick, sum, up_from}
 use Rattle.rules.specs.HandedOver.{Plate, Contour, at, contours}
 use Rattle.rules.specs.Distances.{distance}
-use Rattle.rules.specs.RetraceAndMarks.{cut_kind, back_step_kind, jump_kind, touch_kind, kind_at}
+use Rattle.rules.specs.Marks.{cut_kind, back_step_kind, jump_kind, touch_kind, kind_at}
 use Rattle.rules.specs.declared.Point.{Point}
 
 -- A number times 1,024, exactly, rounded down to a whole number. A finite float is the fraction m × up e / down e, m being its significand and e its exponent.

@@ -1,5 +1,6 @@
--- The marked plates of document 01, as rows of two tables, each with a theorem. Rows A to I come first. The rows after them have no letter; each tells a
--- mistake apart that its comment names.
+-- The marked plates of document 01, as rows of one table that one theorem covers. Rows A to I come first. The rows after them have no letter: they show the
+-- other rules of the documents, in the documents' order, and their comments name the rule or the mistake. Plates that tell rules apart more finely, and those
+-- at the limits, are run: the recorded rows of rust/differential/src/record, and the programs `run_limits` and those beside it.
 -- No expected value comes from the definitions. Paths, orders, starts, distances and grids are what the Rust gives for these plates, its functions unchanged.
 -- Marks are those of a separate transcription of the Rust that writes marks too, its paths being equal to the Rust's; counts are how many marks there are
 -- of a kind, and lengths are worked out from these paths and marks in exact fractions of the roots that the Rust gives. A jump of these between equal points is a touch, kind 4, by document
@@ -8,47 +9,27 @@
 -- The row of a plate in another box than its points' own, which the Rust cannot be given, is worked out by hand too.
 use Rattle.std.specs.Prelude.{◌≡◌, refl, ℕ, zero, suc, ◌+◌, ◌*◌, ◌^◌, Bool, true, false, List, [], ◌∷◌, ◌++◌, map, pos, negsuc, length, replicate, Float}
 use Rattle.std.specs.Float.{nan, inf, fin, binary64}
-use Rattle.std.specs.Float.Ieee.{round, neg, add, sub, mul, div, rem, le, eq, of_int, to_unsigned}
+use Rattle.std.specs.Float.Ieee.{neg, add, sub, mul, div, rem, le, eq, of_int, to_unsigned}
 use Rattle.rules.specs.Tools.{pick, sum, without, having, least, leads, winner, highest_layer, lowest, foremost, lesser, greater}
-use Rattle.rules.specs.HandedOver.{Plate, plate, parked_plate, at, contours_from, contours, vertex_at, layer_at, order_room, straight_room, retrace_room}
-use Rattle.rules.specs.HandedOver.{Answer, gives, refuses, in_range, plate_limit, distance_limit, first_off, first_bad, refused_by, too_many_contours, too_many_points, miscounted}
+use Rattle.rules.specs.HandedOver.{Plate, plate, parked_plate, at, contours_from, contours, vertex_at, layer_at, order_room, straight_room, retrace_room, Answer, gives, refuses, in_range, plate_limit, distance_limit, first_off, first_bad, refused_by, too_many_contours, too_many_points, miscounted}
 use Rattle.rules.specs.HandedOver.{bad_layer_count, bad_layer, out_of_range, off_the_plate, work_short, full, parked_coordinates, input_rows, order_rows, retrace_work, retrace_rows, over, after}
 use Rattle.rules.specs.Distances.{mul_add, root_by, floor_root, round_root, sqrt, distance_squared, distance}
 use Rattle.rules.specs.Start.{half, centre, measured_from, oriented, ends, layer_of, beats, start}
 use Rattle.rules.specs.Box.{widen, box_from, box}
-use Rattle.rules.specs.GridAndNearest.{cell_size, ceiling, cells_along, grid_of, index_along, cell_of, square, within, on_border}
-use Rattle.rules.specs.GridAndNearest.{seen_from, found, wins, nearer, scan_ring, bound, beyond, scan_from, nearest}
-use Rattle.rules.specs.SamplesAndCache.{sampled_after, sampled, cell_number, cell_at, sample_at, samples_from, samples, cache, cached, query_sample, seeded}
-use Rattle.rules.specs.SamplesAndCache.{met, listed, listed_row, listed_square, listed_around, cells_around, query_in, updated_in, updated}
-use Rattle.rules.specs.SamplesAndCache.{waiting, ask_path, keep, seed, update}
-use Rattle.rules.specs.RetraceAndMarks.{coincide, landing_kind, land, cut_up, cut_down, back_step, step_at, vertex_of, walk_to, walk_back, forward as forwardSteps, backward}
-use Rattle.rules.specs.RetraceAndMarks.{return_to, both_ways, emit, entry_of, begin, path_points, closer, waiting_layer, choose, waiting_number, place_in, entered, join_all}
-use Rattle.rules.specs.RetraceAndMarks.{retrace_from, retrace_of, retrace, coordinates, marks, kind_at, count_marks, marks_of}
+use Rattle.rules.specs.GridAndNearest.{cell_size, ceiling, cells_along, grid_of, index_along, cell_of, square, within, on_border, seen_from, found, wins, nearer, scan_ring, bound, beyond, scan_from, nearest}
+use Rattle.rules.specs.SamplesAndCache.{sampled_after, sampled, cell_number, cell_at, sample_at, samples_from, samples, cache, cached, query_sample, seeded, met, listed, listed_row, listed_square, listed_around, cells_around, query_in, updated_in, updated, waiting, ask_path, keep, seed, update}
+use Rattle.rules.specs.Retrace.{step_at, vertex_of, walk_to, walk_back, forward as forwardSteps, backward, return_to, both_ways, emit, entry_of, begin, path_points, closer, waiting_layer, choose, waiting_number, place_in, entered, join_all, retrace_from, retrace_of, retrace}
+use Rattle.rules.specs.Marks.{coincide, landing_kind, land, cut_up, cut_down, back_step, coordinates, marks, kind_at, count_marks, marks_of, vertices}
 use Rattle.rules.specs.Lengths.{in_1024ths, pair_length, counted_length, length_along}
 use Rattle.rules.specs.OrderAndStraight.{last_end, nearer_sense, nearer_end, contour_number, order_after, order_from, order_of, order, entries, straight}
-use Rattle.rules.specs.Calls.{distance_call, start_or, start_call, order_call, straight_call, totals, path_totals, vertices, retrace_call}
+use Rattle.rules.specs.Calls.{distance_call, start_or, start_call, order_call, straight_call, totals, path_totals, retrace_call}
+use Rattle.rules.specs.Plates.{whole, decimal, binary, ◌∣◌, along, points_of, drawn, pairs}
 use Rattle.rules.specs.declared.Point.{Point}
 use Rattle.rules.specs.declared.Totals.{Totals}
 use Rattle.rules.specs.declared.StartPointStrategy.{StartPointStrategy}
 use Rattle.rules.specs.declared.StartPointStrategy.TheVariants.{Outside, Inside, Home}
 
 -- ---- numbers
-
--- n, n / 10^k and n / 2^k, each as the nearest float
-unfoldable pub whole : ℕ → Float
-whole n = of_int binary64 (pos n)
-
-unfoldable pub decimal : ℕ → ℕ → Float
-decimal n k = round binary64 false n (10 ^ k)
-
-unfoldable pub binary : ℕ → ℕ → Float
-binary n k = round binary64 false n (2 ^ k)
-
-unfoldable pub tenths : ℕ → Float
-tenths n = decimal n 1
-
-minus_tenths : ℕ → Float
-minus_tenths n = neg (tenths n)
 
 hundredths : ℕ → Float
 hundredths n = decimal n 2
@@ -59,28 +40,7 @@ thousandths n = decimal n 3
 sixteenths : ℕ → Float
 sixteenths n = binary n 4
 
-sixty_fourths : ℕ → Float
-sixty_fourths n = binary n 6
-
 -- ---- plates and slices
-
--- contours between bars
-infixr 2 ◌∣◌
-unfoldable pub ◌∣◌ : List (ℕ × ℕ) → List (List (ℕ × ℕ)) → List (List (ℕ × ℕ))
-c ∣ cs = c ∷ cs
-
--- points (x, y), in some unit, as an f64 slice has them
-unfoldable pub along : (ℕ → Float) → List (ℕ × ℕ) → List Float
-along unit [] = []
-along unit (p ∷ ps) = unit p.0 ∷ unit p.1 ∷ along unit ps
-
-unfoldable pub points_of : (ℕ → Float) → List (List (ℕ × ℕ)) → List Float
-points_of unit [] = []
-points_of unit (c ∷ cs) = along unit c ++ points_of unit cs
-
--- contours drawn in some unit; width by height
-unfoldable pub drawn : (ℕ → Float) → List (List (ℕ × ℕ)) → ℕ → ℕ → StartPointStrategy → Plate
-drawn unit cs w h s = plate (points_of unit cs) (map length cs) (replicate (length cs) 0) w h s
 
 -- points and lengths as they are handed over, right or wrong
 handed : List Float → List ℕ → Plate
@@ -104,11 +64,6 @@ home a b p = with_home (point (whole a) (whole b)) p
 -- points and lengths as they are handed over with a parked point
 handed_with_home : Point → List Float → List ℕ → Plate
 handed_with_home parked xs ns = parked_plate xs ns (replicate (length ns) 0) parked.x parked.y
-
--- marks (kind, reference) and order entries (contour, 1 if reversed), as a u32 slice has them
-unfoldable pub pairs : List (ℕ × ℕ) → List ℕ
-pairs [] = []
-pairs (p ∷ ps) = p.0 ∷ p.1 ∷ pairs ps
 
 -- what an output slice of n numbers holds before a call
 unwritten : ℕ → List ℕ
@@ -277,10 +232,6 @@ I = point (binary (2 ^ 27 + 1) 27) (binary 5 29)
 skipping : Plate
 skipping = drawn whole ([] ∣ (0, 0) ∷ (4, 0) ∷ [] ∣ [] ∣ (9, 0) ∷ (5, 0) ∷ [] ∣ (1, 1) ∷ (1, 2) ∷ [] ∣ (9, 1) ∷ [] ∣ []) 0 0 Inside
 
--- the third contour's point is the middle of the first
-middled : Plate
-middled = drawn whole ((0, 0) ∷ (4, 0) ∷ (8, 0) ∷ [] ∣ (0, 1) ∷ [] ∣ (4, 0) ∷ [] ∣ []) 0 0 Inside
-
 -- (4,1) | (0,0)(4,0)(8,0), and the same in a box from (0,0) to (1000,0), whose cells have the size 20
 over_middle : Plate
 over_middle = drawn whole ((4, 1) ∷ [] ∣ (0, 0) ∷ (4, 0) ∷ (8, 0) ∷ [] ∣ []) 8 2 Inside
@@ -301,12 +252,6 @@ in_wide_box p =
 three_points : Plate
 three_points = drawn whole ((0, 0) ∷ [] ∣ (1, 0) ∷ [] ∣ (0, 2) ∷ [] ∣ []) 0 0 Inside
 
-four_points : Plate
-four_points = drawn whole ((0, 0) ∷ [] ∣ (1, 0) ∷ [] ∣ (0, 9) ∷ [] ∣ (0, 2) ∷ [] ∣ []) 0 0 Inside
-
-skipped_first : Plate
-skipped_first = drawn whole ([] ∣ (0, 0) ∷ (1, 0) ∷ [] ∣ (5, 0) ∷ [] ∣ []) 0 0 Inside
-
 -- the next f64 above 1,000,000, and above 2,147,483,648
 above_plate_limit : Float
 above_plate_limit = binary (1000000 * 2 ^ 33 + 1) 33
@@ -314,7 +259,7 @@ above_plate_limit = binary (1000000 * 2 ^ 33 + 1) 33
 above_distance_limit : Float
 above_distance_limit = binary (2 ^ 52 + 1) 21
 
--- ---- the tables
+-- ---- the table
 
 pub table : List Row
 table =
@@ -362,37 +307,66 @@ table =
     -- I: squared 1 + 2^−26 + 2^−52 (and plain 1 + 2^−27); two roundings would give 1 + 2^−26
     ∷ distance_of zero_point I ⇒ distances (gives (binary (2 ^ 52 + 2 ^ 26 + 1) 52, binary (2 ^ 27 + 1) 27))
     ∷ two_roundings zero_point I ⇒ squared (binary (2 ^ 26 + 1) 26)
+    -- ---- what is handed over
+    -- refusals, each before the next: 1 before 2, 2 before 3, 3 before 4
+    ∷ start_on (handed [] (65537 ∷ replicate 4096 0)) ⇒ starts (refuses 1 0)
+    ∷ start_on (handed [] (65537 ∷ [])) ⇒ starts (refuses 2 0)
+    ∷ start_on (handed (nan ∷ []) (1 ∷ [])) ⇒ starts (refuses 3 0)
+    -- 4: the next f64 above 1,000,000, and below −1,000,000; the first of two gives the place
+    ∷ start_on (handed (whole 0 ∷ whole 0 ∷ whole 0 ∷ above_plate_limit ∷ []) (2 ∷ [])) ⇒ starts (refuses 4 3)
+    ∷ start_on (handed (whole 0 ∷ whole 0 ∷ neg above_plate_limit ∷ nan ∷ []) (2 ∷ [])) ⇒ starts (refuses 4 2)
+    -- 4 before 5, in order and in retrace; no slice is altered
+    ∷ order_on (handed (whole 0 ∷ nan ∷ []) (1 ∷ [])) 2 0 ⇒ ordered (refuses 4 1) (unwritten 2)
+    ∷ retrace_on (handed (whole 0 ∷ nan ∷ []) (1 ∷ [])) 2 2 0 0 ⇒ retraced (refuses 4 1) (unwritten_path 2) (unwritten 2)
+    -- 5: E with C = 6 needs 6 + 4 × 4 + 8 × 2 + 16,384 = 16,422 u32 and 2 f64; one short gets 5, u32 before f64
+    ∷ retrace_on E 12 12 16422 2
+    ⇒ retraced (joined 6 2 2 1 (8192, 8192, 1024))
+    (along whole ((0, 0) ∷ (4, 0) ∷ (8, 0) ∷ (4, 0) ∷ (0, 0) ∷ (0, 1) ∷ []))
+    (pairs ((0, 0) ∷ (1, 0) ∷ (1, 1) ∷ (2, 1) ∷ (2, 0) ∷ (3, 3) ∷ []))
+    ∷ retrace_on E 12 12 16422 1 ⇒ retraced (refuses 5 1) (unwritten_path 12) (unwritten 12)
+    ∷ retrace_on E 12 12 16421 1 ⇒ retraced (refuses 5 0) (unwritten_path 12) (unwritten 12)
+    -- by C, not by the result's length; and before 6
+    ∷ retrace_on E 14 14 16422 2 ⇒ retraced (refuses 5 0) (unwritten_path 14) (unwritten 14)
+    ∷ retrace_on E 8 8 16419 2 ⇒ retraced (refuses 5 0) (unwritten_path 8) (unwritten 8)
+    -- order and straight need M u32, skipped contours counted: 6 here
+    ∷ order_on skipping 4 5 ⇒ ordered (refuses 5 0) (unwritten 4)
+    -- 6: C is the least of both halves, rounded down; nothing after the first C entries is altered
+    ∷ retrace_on E 13 9 100000 2
+    ⇒ retraced (refuses 6 4)
+    (along whole ((0, 0) ∷ (4, 0) ∷ (8, 0) ∷ (4, 0) ∷ []) ++ unwritten_path 5)
+    (pairs ((0, 0) ∷ (1, 0) ∷ (1, 1) ∷ (2, 1) ∷ []) ++ unwritten 1)
+    ∷ retrace_on E 9 13 100000 2
+    ⇒ retraced (refuses 6 4)
+    (along whole ((0, 0) ∷ (4, 0) ∷ (8, 0) ∷ (4, 0) ∷ []) ++ unwritten_path 1)
+    (pairs ((0, 0) ∷ (1, 0) ∷ (1, 1) ∷ (2, 1) ∷ []) ++ unwritten 5)
+    ∷ order_on G 5 3 ⇒ ordered (refuses 6 2) (pairs ((0, 0) ∷ (1, 0) ∷ []) ++ unwritten 1)
+    ∷ straight_on G 5 3 ⇒ straightened (refuses 6 2) (along whole ((0, 0) ∷ (1, 0) ∷ []) ++ unwritten_path 1)
+    -- C = 0, with a path of six points and with none
+    ∷ retrace_on E 1 1 100000 2 ⇒ retraced (refuses 6 0) (unwritten_path 1) (unwritten 1)
+    ∷ retrace_on A 0 0 16384 0 ⇒ retraced (joined 0 0 0 0 (0, 0, 0)) [] []
+    -- C is at most 1,048,576 for straight and retrace
+    ∷ room_in 2097154 ⇒ room 1048577 1048576 1048576
+    -- 7: the start call only; a contour that holds no point is none
+    ∷ start_on (handed [] (0 ∷ 0 ∷ [])) ⇒ starts (refuses 7 0)
     -- ---- distances
     -- the differences are rounded first: with 1 + 3 × 2^−55 itself it would be 1 + 2^−52
     ∷ distance_of (point (whole 1) (whole 0)) (point (neg (binary 3 55)) (whole 0)) ⇒ distances (gives (whole 1, whole 1))
-    ∷ distance_of (point (whole 0) (whole 1)) (point (whole 0) (neg (binary 3 55))) ⇒ distances (gives (whole 1, whole 1))
-    -- the root is rounded to the nearest: the first of these up, the second down
+    -- the root is rounded to the nearest
     ∷ distance_of zero_point (point (whole 1) (whole 1)) ⇒ distances (gives (whole 2, decimal 14142135623730951 16))
-    ∷ distance_of zero_point (point (whole 2) (whole 3)) ⇒ distances (gives (whole 13, decimal 3605551275463989 15))
-    -- subnormal numbers count: 2^−1074, and 2.25 × 2^−1074, which is rounded to 2^−1073
+    -- subnormal numbers count: 2^−1074
     ∷ distance_of zero_point (point (binary 1 537) (whole 0)) ⇒ distances (gives (binary 1 1074, binary 1 537))
-    ∷ distance_of zero_point (point (binary 3 538) (whole 0)) ⇒ distances (gives (binary 1 1073, binary 6369051672525773 589))
-    -- a magnitude of 2,147,483,648 passes, and the next f64 above gets 4; so do an infinity and a NaN; the first of two gives the place
-    ∷ distance_of (point (whole (2 ^ 31)) (whole 0)) (point (neg (whole (2 ^ 31))) (whole 0)) ⇒ distances (gives (whole (2 ^ 64), whole (2 ^ 32)))
-    ∷ distance_of zero_point (point above_distance_limit (whole 0)) ⇒ distances (refuses 4 2)
+    -- the next f64 below −2,147,483,648 gets 4; the first of two gives the place
     ∷ distance_of (point (whole 0) (neg above_distance_limit)) (point (whole 0) (inf false)) ⇒ distances (refuses 4 1)
-    ∷ distance_of (point (inf true) (whole 0)) zero_point ⇒ distances (refuses 4 0)
-    ∷ distance_of zero_point (point (whole 0) nan) ⇒ distances (refuses 4 3)
     -- ---- start
-    -- contour numbers count skipped contours
-    ∷ start_on (drawn whole ([] ∣ (0, 0) ∷ (4, 0) ∷ [] ∣ []) 10 10 Inside) ⇒ starts (gives (1, reversed))
-    -- the centre of an odd width, and of an odd height, is not a whole number: 3.5 is as far from 3 as from 4
+    -- the centre of an odd width is not a whole number: 3.5 is as far from 3 as from 4
     ∷ start_on (drawn whole ((3, 0) ∷ (4, 0) ∷ [] ∣ []) 7 0 Outside) ⇒ starts (gives (0, forward))
-    ∷ start_on (drawn whole ((0, 3) ∷ (0, 4) ∷ [] ∣ []) 0 7 Outside) ⇒ starts (gives (0, forward))
     -- of equal ends in two contours the first wins, with Outside and with Inside
     ∷ start_on (drawn whole ((1, 0) ∷ [] ∣ (0, 1) ∷ [] ∣ []) 0 0 Outside) ⇒ starts (gives (0, forward))
     ∷ start_on (drawn whole ((1, 0) ∷ [] ∣ (0, 1) ∷ [] ∣ []) 0 0 Inside) ⇒ starts (gives (0, forward))
     -- only ends count, and a later contour can win
     ∷ start_on (drawn whole ((1, 0) ∷ (2, 0) ∷ [] ∣ (3, 0) ∷ (9, 9) ∷ (5, 0) ∷ [] ∣ []) 0 0 Outside) ⇒ starts (gives (1, reversed))
-    -- with both products rounded the two would be equal, and the first would win
-    ∷ start_on (drawn tenths ((7, 4) ∷ [] ∣ (4, 7) ∷ [] ∣ []) 0 0 Inside) ⇒ starts (gives (1, forward))
     -- ---- grid and nearest
-    -- cell size, columns and rows: s is no less than 1 / 50; 54 columns, the most that there are
+    -- cell size, columns and rows: the width or the height of the box, whichever is greater, but no less than 1; 54 columns, the most that there are
     ∷ grid_on (drawn whole ((0, 0) ∷ (8, 1) ∷ [] ∣ []) 0 0 Outside) ⇒ grid (hundredths 16) 53 10
     ∷ grid_on (drawn whole ((1, 8) ∷ (0, 0) ∷ [] ∣ []) 0 0 Outside) ⇒ grid (hundredths 16) 10 53
     ∷ grid_on (drawn sixteenths ((4, 0) ∷ (8, 2) ∷ [] ∣ []) 0 0 Outside) ⇒ grid (hundredths 2) 16 10
@@ -412,16 +386,6 @@ table =
     (along sixteenths ((0, 0) ∷ (800, 8) ∷ (177, 8) ∷ (161, 8) ∷ (177, 8) ∷ (175, 8) ∷ []))
     ((0, 0) ∷ (1, 0) ∷ (1, 1) ∷ (1, 2) ∷ (2, 2) ∷ (3, 4) ∷ [])
     (joined 6 3 1 1 (92098, 1024, 128))
-    -- ring 2 is searched: the bound is (r − 1) × s, not r × s
-    ∷ retraces (drawn sixteenths ((0, 0) ∷ (800, 8) ∷ (193, 8) ∷ (152, 8) ∷ [] ∣ (175, 8) ∷ [] ∣ []) 0 0 Inside)
-    (along sixteenths ((0, 0) ∷ (800, 8) ∷ (193, 8) ∷ (152, 8) ∷ (193, 8) ∷ (175, 8) ∷ []))
-    ((0, 0) ∷ (1, 0) ∷ (1, 1) ∷ (1, 2) ∷ (2, 2) ∷ (3, 4) ∷ [])
-    (joined 6 3 1 1 (92674, 2624, 1152))
-    -- the same in whole numbers
-    ∷ retraces (drawn whole ((0, 2) ∷ (2, 0) ∷ (1, 0) ∷ (3, 1) ∷ [] ∣ (3, 0) ∷ [] ∣ []) 0 0 Outside)
-    (along whole ((3, 1) ∷ (1, 0) ∷ (2, 0) ∷ (0, 2) ∷ (2, 0) ∷ (3, 0) ∷ []))
-    ((0, 3) ∷ (1, 2) ∷ (1, 1) ∷ (1, 0) ∷ (2, 2) ∷ (3, 4) ∷ [])
-    (joined 6 3 1 1 (6209, 2896, 1024))
     -- a ring whose bound equals the best is still searched; the bound is the square of (r − 1) × s, rounded before it is squared
     ∷ retraces (drawn hundredths ((0, 0) ∷ (24, 0) ∷ [] ∣ (12, 0) ∷ [] ∣ []) 0 0 Inside)
     (along hundredths ((0, 0) ∷ (24, 0) ∷ (12, 0) ∷ []))
@@ -437,47 +401,12 @@ table =
     (along hundredths ((13, 0) ∷ (29, 0) ∷ (21, 0) ∷ []))
     ((0, 0) ∷ (1, 0) ∷ (3, 2) ∷ [])
     (joined 3 1 0 1 (163, 0, 81))
-    -- the same, with negative coordinates, and −0
-    ∷ retraces (drawn minus_tenths ((11, 0) ∷ (61, 0) ∷ (19, 0) ∷ [] ∣ (15, 0) ∷ [] ∣ []) 0 0 Outside)
-    (along minus_tenths ((19, 0) ∷ (61, 0) ∷ (11, 0) ∷ (61, 0) ∷ (19, 0) ∷ (15, 0) ∷ []))
-    ((0, 2) ∷ (1, 1) ∷ (1, 0) ∷ (2, 1) ∷ (2, 0) ∷ (3, 3) ∷ [])
-    (joined 6 2 2 1 (9420, 9420, 409))
-    -- dy × dy alone is rounded before the sum
-    ∷ retraces (drawn hundredths ((600, 0) ∷ (10, 4) ∷ [] ∣ (2, 0) ∷ [] ∣ (0, 0) ∷ (6, 2) ∷ (8, 10) ∷ (8, 8) ∷ (12, 6) ∷ (4, 6) ∷ [] ∣ []) 0 0 Outside)
-    (along hundredths ((600, 0) ∷ (10, 4) ∷ (4, 6) ∷ (12, 6) ∷ (8, 8) ∷ (8, 10) ∷ (6, 2) ∷ (0, 0) ∷ (2, 0) ∷ []))
-    ((0, 0) ∷ (1, 0) ∷ (3, 8) ∷ (1, 7) ∷ (1, 6) ∷ (1, 5) ∷ (1, 4) ∷ (1, 3) ∷ (3, 2) ∷ [])
-    (joined 9 6 0 2 (6335, 0, 84))
-    -- 50 cells, not 40 or 51
-    ∷ retraces (drawn whole ((87, 1) ∷ [] ∣ (3, 1) ∷ [] ∣ (89, 0) ∷ [] ∣ (46, 1) ∷ [] ∣ []) 100 0 Inside)
-    (along whole ((46, 1) ∷ (87, 1) ∷ (46, 1) ∷ (3, 1) ∷ (46, 1) ∷ (87, 1) ∷ (89, 0) ∷ []))
-    ((0, 3) ∷ (3, 0) ∷ (2, 0) ∷ (3, 1) ∷ (2, 2) ∷ (2, 1) ∷ (3, 2) ∷ [])
-    (joined 7 0 3 3 (0, 128000, 88305))
-    -- the height of the box counts where it is above the width
-    ∷ retraces (drawn whole ((30, 10) ∷ [] ∣ (65, 63) ∷ (65, 62) ∷ (65, 62) ∷ [] ∣ []) 100 0 Inside)
-    (along whole ((30, 10) ∷ (65, 62) ∷ (65, 62) ∷ (65, 63) ∷ []))
-    ((0, 0) ∷ (3, 3) ∷ (1, 2) ∷ (1, 1) ∷ [])
-    (joined 4 2 0 1 (1024, 0, 64186))
     -- ---- samples and cache
     -- the last vertex is always a sample
     ∷ retraces (drawn whole ((57, 0) ∷ [] ∣ (97, 2) ∷ (96, 1) ∷ [] ∣ (11, 0) ∷ (10, 0) ∷ [] ∣ []) 0 0 Inside)
     (along whole ((10, 0) ∷ (11, 0) ∷ (57, 0) ∷ (96, 1) ∷ (97, 2) ∷ []))
     ((0, 4) ∷ (1, 3) ∷ (3, 0) ∷ (3, 2) ∷ (1, 1) ∷ [])
     (joined 5 2 0 2 (2472, 0, 87053))
-    -- vertices whose total did not reach s are no samples
-    ∷ retraces (drawn whole ((9, 0) ∷ (74, 0) ∷ (11, 32) ∷ [] ∣ (47, 2) ∷ (47, 1) ∷ (45, 2) ∷ [] ∣ []) 0 0 Inside)
-    (along whole ((9, 0) ∷ (74, 0) ∷ (11, 32) ∷ (74, 0) ∷ (47, 2) ∷ (47, 1) ∷ (45, 2) ∷ []))
-    ((0, 0) ∷ (1, 0) ∷ (1, 1) ∷ (2, 1) ∷ (3, 3) ∷ (1, 3) ∷ (1, 4) ∷ [])
-    (joined 7 4 1 1 (142230, 72357, 27723))
-    -- s is a fiftieth of the box, not a fortieth
-    ∷ retraces (drawn whole ((59, 0) ∷ (60, 1) ∷ (59, 1) ∷ [] ∣ (99, 0) ∷ [] ∣ (34, 0) ∷ [] ∣ []) 100 0 Outside)
-    (along whole ((99, 0) ∷ (60, 1) ∷ (59, 1) ∷ (60, 1) ∷ (59, 0) ∷ (34, 0) ∷ []))
-    ((0, 3) ∷ (3, 1) ∷ (1, 1) ∷ (2, 1) ∷ (1, 0) ∷ (3, 4) ∷ [])
-    (joined 6 2 1 2 (2472, 1024, 65549))
-    -- a total equal to s reaches it
-    ∷ retraces (drawn whole ((28, 1) ∷ (28, 2) ∷ (29, 1) ∷ (29, 1) ∷ [] ∣ (1, 3) ∷ (33, 50) ∷ [] ∣ (11, 2) ∷ (12, 3) ∷ [] ∣ (40, 0) ∷ [] ∣ []) 50 0 Outside)
-    (along whole ((33, 50) ∷ (1, 3) ∷ (11, 2) ∷ (12, 3) ∷ (28, 2) ∷ (29, 1) ∷ (29, 1) ∷ (29, 1) ∷ (28, 2) ∷ (28, 1) ∷ (28, 2) ∷ (29, 1) ∷ (40, 0) ∷ []))
-    ((0, 5) ∷ (1, 4) ∷ (3, 6) ∷ (1, 6) ∷ (3, 1) ∷ (1, 1) ∷ (1, 2) ∷ (2, 5) ∷ (2, 4) ∷ (1, 0) ∷ (2, 8) ∷ (2, 7) ∷ (3, 8) ∷ [])
-    (joined 13 5 4 3 (62144, 3920, 38016))
     -- the total becomes its remainder by s, not 0: vertex 2 is the entry
     ∷ retraces (drawn whole ((4, 0) ∷ [] ∣ (0, 1) ∷ (3, 1) ∷ (4, 1) ∷ (4, 100) ∷ [] ∣ []) 8 0 Inside)
     (along whole ((4, 0) ∷ (4, 1) ∷ (4, 100) ∷ (4, 1) ∷ (3, 1) ∷ (0, 1) ∷ []))
@@ -488,41 +417,16 @@ table =
     (along hundredths ((7, 0) ∷ (5, 0) ∷ (6, 0) ∷ (1, 0) ∷ (6, 0) ∷ (5, 0) ∷ (0, 0) ∷ []))
     ((0, 4) ∷ (3, 1) ∷ (1, 1) ∷ (1, 2) ∷ (2, 2) ∷ (2, 1) ∷ (1, 0) ∷ [])
     (joined 7 3 2 1 (112, 61, 20))
-    -- a box smaller than 1 counts as 1
-    ∷ retraces (drawn sixty_fourths ((11, 3) ∷ [] ∣ (14, 0) ∷ (14, 1) ∷ (15, 2) ∷ [] ∣ []) 0 0 Inside)
-    (along sixty_fourths ((11, 3) ∷ (15, 2) ∷ (14, 1) ∷ (14, 0) ∷ []))
-    ((0, 0) ∷ (3, 3) ∷ (1, 2) ∷ (1, 1) ∷ [])
-    (joined 4 2 0 1 (38, 0, 65))
     -- an equal distance replaces no cache
     ∷ retraces (drawn whole ((2, 0) ∷ (2, 0) ∷ [] ∣ (6, 1) ∷ [] ∣ []) 8 0 Outside)
     (along whole ((6, 1) ∷ (2, 0) ∷ (2, 0) ∷ []))
     ((0, 2) ∷ (3, 0) ∷ (1, 0) ∷ [])
     (joined 3 1 0 1 (0, 0, 4222))
-    -- caches are updated after each later contour
-    ∷ retraces (drawn whole ((0, 0) ∷ [] ∣ (2, 0) ∷ (0, 0) ∷ [] ∣ (1, 2) ∷ [] ∣ []) 0 0 Outside)
-    (along whole ((1, 2) ∷ (0, 0) ∷ (0, 0) ∷ (2, 0) ∷ []))
-    ((0, 3) ∷ (3, 0) ∷ (4, 2) ∷ (1, 1) ∷ [])
-    (touching 4 1 0 1 1 (2048, 0, 2289))
     -- the listed cells are those within 1: not the own cell alone
     ∷ retraces (drawn whole ((6, 1) ∷ [] ∣ (44, 1) ∷ [] ∣ (5, 1) ∷ [] ∣ (25, 1) ∷ [] ∣ []) 50 0 Inside)
     (along whole ((25, 1) ∷ (6, 1) ∷ (5, 1) ∷ (6, 1) ∷ (25, 1) ∷ (44, 1) ∷ []))
     ((0, 3) ∷ (3, 0) ∷ (3, 2) ∷ (2, 1) ∷ (2, 0) ∷ (3, 1) ∷ [])
     (joined 6 0 2 3 (0, 20480, 39936))
-    -- the row above too
-    ∷ retraces (drawn whole ((1, 75) ∷ [] ∣ (1, 25) ∷ [] ∣ (1, 77) ∷ [] ∣ (1, 50) ∷ [] ∣ []) 0 100 Inside)
-    (along whole ((1, 50) ∷ (1, 75) ∷ (1, 77) ∷ (1, 75) ∷ (1, 50) ∷ (1, 25) ∷ []))
-    ((0, 3) ∷ (3, 0) ∷ (3, 2) ∷ (2, 1) ∷ (2, 0) ∷ (3, 1) ∷ [])
-    (joined 6 0 2 3 (0, 27648, 53248))
-    -- not those within 2
-    ∷ retraces (drawn whole ((23, 3) ∷ [] ∣ (22, 3) ∷ (23, 5) ∷ [] ∣ (50, 2) ∷ [] ∣ []) 50 0 Outside)
-    (along whole ((50, 2) ∷ (23, 3) ∷ (23, 5) ∷ (22, 3) ∷ []))
-    ((0, 3) ∷ (3, 0) ∷ (3, 2) ∷ (1, 1) ∷ [])
-    (joined 4 1 0 2 (2289, 0, 29714))
-    -- samples in other cells are not queried again
-    ∷ retraces (drawn whole ((30, 2) ∷ [] ∣ (50, 0) ∷ [] ∣ (27, 0) ∷ (27, 1) ∷ [] ∣ []) 0 0 Outside)
-    (along whole ((50, 0) ∷ (30, 2) ∷ (27, 0) ∷ (27, 1) ∷ []))
-    ((0, 1) ∷ (3, 0) ∷ (3, 2) ∷ (1, 2) ∷ [])
-    (joined 4 1 0 2 (1024, 0, 24274))
     -- cells around each point are listed, not only around the ends
     ∷ retraces (drawn whole ((4, 0) ∷ [] ∣ (1, 0) ∷ [] ∣ (3, 0) ∷ [] ∣ (2, 0) ∷ (1, 0) ∷ (4, 0) ∷ [] ∣ []) 4 0 Outside)
     (along whole ((4, 0) ∷ (4, 0) ∷ (1, 0) ∷ (2, 0) ∷ (1, 0) ∷ (1, 0) ∷ (1, 0) ∷ (2, 0) ∷ (3, 0) ∷ []))
@@ -538,39 +442,9 @@ table =
     (along whole ((1, 0) ∷ (4, 0) ∷ (8, 0) ∷ (8, 0) ∷ (4, 0) ∷ []))
     ((0, 2) ∷ (3, 1) ∷ (1, 0) ∷ (4, 3) ∷ (1, 3) ∷ [])
     (touching 5 2 0 1 1 (8192, 0, 3072))
-    -- cells are listed by rows, then columns
-    ∷ retraces (drawn whole ((27, 1) ∷ [] ∣ (27, 2) ∷ (28, 1) ∷ [] ∣ (0, 1) ∷ [] ∣ []) 0 0 Inside)
-    (along whole ((0, 1) ∷ (27, 1) ∷ (28, 1) ∷ (27, 2) ∷ []))
-    ((0, 3) ∷ (3, 0) ∷ (3, 2) ∷ (1, 1) ∷ [])
-    (joined 4 1 0 2 (1448, 0, 28672))
-    -- rows from the lowest
-    ∷ retraces (drawn whole ((8, 1) ∷ [] ∣ (8, 2) ∷ (7, 1) ∷ [] ∣ (50, 1) ∷ [] ∣ []) 8 0 Outside)
-    (along whole ((50, 1) ∷ (8, 1) ∷ (7, 1) ∷ (8, 2) ∷ []))
-    ((0, 3) ∷ (3, 0) ∷ (3, 2) ∷ (1, 1) ∷ [])
-    (joined 4 1 0 2 (1448, 0, 44032))
-    -- columns from the lowest
-    ∷ retraces (drawn whole ((50, 0) ∷ [] ∣ (8, 0) ∷ (7, 0) ∷ [] ∣ (7, 0) ∷ (8, 0) ∷ [] ∣ []) 8 0 Outside)
-    (along whole ((50, 0) ∷ (8, 0) ∷ (7, 0) ∷ (7, 0) ∷ (8, 0) ∷ []))
-    ((0, 0) ∷ (3, 1) ∷ (1, 1) ∷ (4, 3) ∷ (1, 3) ∷ [])
-    (touching 5 2 0 1 1 (2048, 0, 43008))
-    -- the point's own cell is not listed before the row below it
-    ∷ retraces (drawn whole ((0, 2) ∷ (0, 1) ∷ [] ∣ (29, 1) ∷ [] ∣ (0, 1) ∷ (0, 2) ∷ [] ∣ []) 0 0 Outside)
-    (along whole ((29, 1) ∷ (0, 1) ∷ (0, 2) ∷ (0, 1) ∷ (0, 1) ∷ (0, 2) ∷ []))
-    ((0, 2) ∷ (3, 1) ∷ (1, 0) ∷ (2, 1) ∷ (4, 3) ∷ (1, 3) ∷ [])
-    (touching 6 2 1 1 1 (2048, 1024, 29696))
-    -- within a cell from the lowest vertex
-    ∷ retraces (drawn whole ((0, 1) ∷ (0, 1) ∷ [] ∣ (0, 2) ∷ [] ∣ (34, 3) ∷ [] ∣ []) 0 0 Outside)
-    (along whole ((34, 3) ∷ (0, 2) ∷ (0, 1) ∷ (0, 1) ∷ []))
-    ((0, 3) ∷ (3, 2) ∷ (3, 0) ∷ (1, 0) ∷ [])
-    (joined 4 1 0 2 (0, 0, 35855))
-    ∷ []
-
--- two tables, since the check of one declaration may take so many steps and no more
-pub later_table : List Row
-later_table =
     -- ---- retrace and marks
     -- the place is the fresh one, not the cached one
-    retraces (drawn whole ((1, 8) ∷ [] ∣ (7, 0) ∷ [] ∣ (7, 2) ∷ [] ∣ []) 0 0 Outside)
+    ∷ retraces (drawn whole ((1, 8) ∷ [] ∣ (7, 0) ∷ [] ∣ (7, 2) ∷ [] ∣ []) 0 0 Outside)
     (along whole ((1, 8) ∷ (7, 2) ∷ (7, 0) ∷ []))
     ((0, 0) ∷ (3, 2) ∷ (3, 1) ∷ [])
     (joined 3 0 0 2 (0, 0, 10736))
@@ -579,25 +453,43 @@ later_table =
     (along whole ((4, 0) ∷ (13, 0) ∷ (4, 0) ∷ (4, 1) ∷ (8, 1) ∷ (12, 1) ∷ (8, 1) ∷ (4, 1) ∷ (0, 1) ∷ []))
     ((0, 0) ∷ (1, 0) ∷ (2, 0) ∷ (3, 3) ∷ (1, 3) ∷ (1, 4) ∷ (2, 4) ∷ (2, 3) ∷ (1, 2) ∷ [])
     (joined 9 4 3 1 (21504, 17408, 1024))
-    -- the grid, and the samples by it, lie over the plate's box: where the cells are larger than the contour only its ends are samples
-    ∷ retraces over_middle
-    (along whole ((4, 1) ∷ (4, 0) ∷ (8, 0) ∷ (4, 0) ∷ (0, 0) ∷ []))
-    ((0, 0) ∷ (3, 2) ∷ (1, 2) ∷ (2, 1) ∷ (1, 1) ∷ [])
+    -- contours that hold no point are skipped, and are no jumps
+    ∷ retraces skipping
+    (along whole ((0, 0) ∷ (4, 0) ∷ (5, 0) ∷ (9, 0) ∷ (5, 0) ∷ (4, 0) ∷ (0, 0) ∷ (1, 1) ∷ (1, 2) ∷ (1, 1) ∷ (0, 0) ∷ (4, 0) ∷ (5, 0) ∷ (9, 0) ∷ (9, 1) ∷ []))
+    ((0, 0) ∷ (1, 0) ∷ (3, 3) ∷ (1, 2) ∷ (2, 2) ∷ (2, 1) ∷ (2, 0) ∷ (3, 4) ∷ (1, 4) ∷ (2, 7) ∷ (2, 6) ∷ (2, 5) ∷ (2, 4) ∷ (2, 3) ∷ (3, 6) ∷ [])
+    (joined 15 3 8 3 (9216, 20904, 3496))
+    -- ---- order and straight
+    -- forward where forward ≤ reverse: an equal distance reverses nothing
+    ∷ order_in 2 (drawn whole ((0, 0) ∷ [] ∣ (1, 0) ∷ (0, 1) ∷ [] ∣ []) 0 0 Inside) ⇒ ordered (gives 2) (pairs ((0, 0) ∷ (1, 0) ∷ []))
+    -- contour numbers count skipped contours; a reversed contour ends at its first vertex
+    ∷ order_in 4 skipping ⇒ ordered (gives 4) (pairs ((1, 0) ∷ (3, 1) ∷ (5, 0) ∷ (4, 0) ∷ []))
+    ∷ straight_in 7 skipping
+    ⇒ straightened (gives 7) (along whole ((0, 0) ∷ (4, 0) ∷ (5, 0) ∷ (9, 0) ∷ (9, 1) ∷ (1, 1) ∷ (1, 2) ∷ []))
+    -- ---- the parked point
+    -- of equal ends the first point comes before the last, and a contour's last point before a later contour's first
+    ∷ start_on (home 2 0 (B Inside)) ⇒ starts (gives (0, forward))
+    ∷ start_on (home 4 0 (drawn whole ((9, 9) ∷ (4, 0) ∷ [] ∣ (4, 0) ∷ (9, 9) ∷ [] ∣ []) 0 0 Inside)) ⇒ starts (gives (0, reversed))
+    -- a smaller distance wins over an earlier end; the centre does not count, whatever the size
+    ∷ start_on (home 90 0 (drawn whole ((0, 0) ∷ (4, 0) ∷ [] ∣ (90, 0) ∷ (95, 0) ∷ [] ∣ []) 10 10 Inside)) ⇒ starts (gives (1, forward))
+    -- 4: place 0 or 1 within the point
+    ∷ start_on (with_home (point above_plate_limit nan) D) ⇒ starts (refuses 4 0)
+    ∷ start_on (with_home (point (whole 0) (neg above_plate_limit)) D) ⇒ starts (refuses 4 1)
+    -- before the coordinates' own 4, whose place is in the slice; after 13; before 5 and 7; no slice is altered
+    ∷ start_on (handed_with_home (point (whole 0) nan) (nan ∷ whole 0 ∷ []) (1 ∷ [])) ⇒ starts (refuses 4 1)
+    ∷ start_on (in_layers (0 ∷ 16 ∷ []) (with_home (point nan nan) D)) ⇒ starts (refuses 13 1)
+    ∷ order_on (with_home (point (whole 0) nan) D) 4 0 ⇒ ordered (refuses 4 1) (unwritten 4)
+    ∷ start_on (with_home (point (whole 0) nan) A) ⇒ starts (refuses 4 1)
+    -- retrace: F from (9,1), which is another path than F's own
+    ∷ retraces (home 9 1 F)
+    (along whole ((8, 1) ∷ (4, 1) ∷ (0, 1) ∷ (4, 1) ∷ (4, 0) ∷ []))
+    ((0, 3) ∷ (1, 2) ∷ (1, 1) ∷ (2, 1) ∷ (3, 0) ∷ [])
     (joined 5 2 1 1 (8192, 4096, 1024))
-    ∷ retraces (in_wide_box over_middle)
-    (along whole ((4, 1) ∷ (0, 0) ∷ (4, 0) ∷ (8, 0) ∷ []))
-    ((0, 0) ∷ (3, 1) ∷ (1, 1) ∷ (1, 2) ∷ [])
-    (joined 4 2 0 1 (8192, 0, 4222))
-    -- touches: an end meets an end
+    -- ---- touches
+    -- an end meets an end
     ∷ retraces (drawn whole ((0, 0) ∷ (4, 0) ∷ [] ∣ (4, 0) ∷ [] ∣ []) 0 0 Inside)
     (along whole ((0, 0) ∷ (4, 0) ∷ (4, 0) ∷ []))
     ((0, 0) ∷ (1, 0) ∷ (4, 2) ∷ [])
     (touching 3 1 0 0 1 (4096, 0, 0))
-    -- one after the other
-    ∷ retraces (drawn whole ((1, 1) ∷ [] ∣ (1, 1) ∷ [] ∣ (1, 1) ∷ [] ∣ []) 0 0 Inside)
-    (along whole ((1, 1) ∷ (1, 1) ∷ (1, 1) ∷ []))
-    ((0, 0) ∷ (4, 1) ∷ (4, 2) ∷ [])
-    (touching 3 0 0 0 2 (0, 0, 0))
     -- 0 and −0 are equal; the path has the landing's own bits
     ∷ retraces (plate (whole 0 ∷ neg (whole 0) ∷ neg (whole 0) ∷ whole 0 ∷ whole 4 ∷ whole 0 ∷ []) (1 ∷ 2 ∷ []) (0 ∷ 0 ∷ []) 0 0 Inside)
     (whole 0 ∷ neg (whole 0) ∷ neg (whole 0) ∷ whole 0 ∷ whole 4 ∷ whole 0 ∷ [])
@@ -622,116 +514,16 @@ later_table =
     (whole 0 ∷ whole 0 ∷ binary 1 1074 ∷ whole 0 ∷ whole 0 ∷ whole 0 ∷ [])
     ((0, 0) ∷ (3, 1) ∷ (3, 2) ∷ [])
     (joined 3 0 0 2 (0, 0, 0))
-    -- into the middle of a contour
-    ∷ retraces (drawn whole ((4, 0) ∷ [] ∣ (0, 0) ∷ (4, 0) ∷ (8, 0) ∷ [] ∣ []) 8 0 Inside)
-    (along whole ((4, 0) ∷ (4, 0) ∷ (8, 0) ∷ (4, 0) ∷ (0, 0) ∷ []))
-    ((0, 0) ∷ (4, 2) ∷ (1, 2) ∷ (2, 1) ∷ (1, 1) ∷ [])
-    (touching 5 2 1 0 1 (8192, 4096, 0))
     -- the point left is where the walk back ends, not where the path ended
     ∷ retraces (drawn whole ((0, 0) ∷ (4, 0) ∷ [] ∣ (0, 0) ∷ [] ∣ []) 0 0 Inside)
     (along whole ((0, 0) ∷ (4, 0) ∷ (0, 0) ∷ (0, 0) ∷ []))
     ((0, 0) ∷ (1, 0) ∷ (2, 0) ∷ (4, 2) ∷ [])
     (touching 4 1 1 0 1 (4096, 4096, 0))
-    -- a cut and a back-step between equal points stay what they are: the back-step at place 5 takes back the touch
-    ∷ retraces (drawn whole ((2, 0) ∷ (2, 0) ∷ [] ∣ []) 0 0 Inside)
-    (along whole ((2, 0) ∷ (2, 0) ∷ []))
-    ((0, 0) ∷ (1, 0) ∷ [])
-    (joined 2 1 0 0 (0, 0, 0))
-    ∷ retraces middled
+    -- a back-step between equal points stays what it is: the one at place 5 takes back the touch
+    ∷ retraces (drawn whole ((0, 0) ∷ (4, 0) ∷ (8, 0) ∷ [] ∣ (0, 1) ∷ [] ∣ (4, 0) ∷ [] ∣ []) 0 0 Inside)
     (along whole ((0, 0) ∷ (4, 0) ∷ (8, 0) ∷ (4, 0) ∷ (4, 0) ∷ (4, 0) ∷ (8, 0) ∷ (4, 0) ∷ (0, 0) ∷ (0, 1) ∷ []))
     ((0, 0) ∷ (1, 0) ∷ (1, 1) ∷ (2, 1) ∷ (4, 4) ∷ (2, 3) ∷ (2, 2) ∷ (2, 1) ∷ (2, 0) ∷ (3, 3) ∷ [])
     (touching 10 2 5 1 1 (8192, 16384, 1024))
-    -- the place that is walked back to is itself a back-step's: 3, and not 1
-    ∷ retraces (in_layers (0 ∷ 0 ∷ 1 ∷ []) middled)
-    (along whole ((0, 0) ∷ (4, 0) ∷ (8, 0) ∷ (4, 0) ∷ (0, 0) ∷ (0, 1) ∷ (0, 0) ∷ (4, 0) ∷ (4, 0) ∷ []))
-    ((0, 0) ∷ (1, 0) ∷ (1, 1) ∷ (2, 1) ∷ (2, 0) ∷ (3, 3) ∷ (2, 4) ∷ (2, 3) ∷ (4, 4) ∷ [])
-    (touching 9 2 4 1 1 (8192, 13312, 1024))
-    -- contours that hold no point are skipped, and are no jumps
-    ∷ retraces skipping
-    (along whole ((0, 0) ∷ (4, 0) ∷ (5, 0) ∷ (9, 0) ∷ (5, 0) ∷ (4, 0) ∷ (0, 0) ∷ (1, 1) ∷ (1, 2) ∷ (1, 1) ∷ (0, 0) ∷ (4, 0) ∷ (5, 0) ∷ (9, 0) ∷ (9, 1) ∷ []))
-    ((0, 0) ∷ (1, 0) ∷ (3, 3) ∷ (1, 2) ∷ (2, 2) ∷ (2, 1) ∷ (2, 0) ∷ (3, 4) ∷ (1, 4) ∷ (2, 7) ∷ (2, 6) ∷ (2, 5) ∷ (2, 4) ∷ (2, 3) ∷ (3, 6) ∷ [])
-    (joined 15 3 8 3 (9216, 20904, 3496))
-    -- ---- order and straight
-    -- forward where forward ≤ reverse: an equal distance reverses nothing
-    ∷ order_in 2 (drawn whole ((0, 0) ∷ [] ∣ (1, 0) ∷ (0, 1) ∷ [] ∣ []) 0 0 Inside) ⇒ ordered (gives 2) (pairs ((0, 0) ∷ (1, 0) ∷ []))
-    -- a start that is reversed: 1, and its points from the last
-    ∷ order_in 1 (B Inside) ⇒ ordered (gives 1) (pairs ((0, 1) ∷ []))
-    ∷ straight_in 2 (B Inside) ⇒ straightened (gives 2) (along whole ((4, 0) ∷ (0, 0) ∷ []))
-    -- from the last end, not the first
-    ∷ order_in 2 (drawn whole ((0, 1) ∷ (3, 2) ∷ [] ∣ (2, 1) ∷ (3, 2) ∷ [] ∣ []) 0 0 Inside) ⇒ ordered (gives 2) (pairs ((0, 0) ∷ (1, 1) ∷ []))
-    -- contour numbers count skipped contours; a reversed contour ends at its first vertex
-    ∷ order_in 4 skipping ⇒ ordered (gives 4) (pairs ((1, 0) ∷ (3, 1) ∷ (5, 0) ∷ (4, 0) ∷ []))
-    ∷ straight_in 7 skipping
-    ⇒ straightened (gives 7) (along whole ((0, 0) ∷ (4, 0) ∷ (5, 0) ∷ (9, 0) ∷ (9, 1) ∷ (1, 1) ∷ (1, 2) ∷ []))
-    -- ---- refusals
-    -- 1: M 4,097 gets it, before 2, before 5 and before 7; M 4,096 passes
-    ∷ start_on (handed [] (replicate 4097 0)) ⇒ starts (refuses 1 0)
-    ∷ start_on (handed [] (65537 ∷ replicate 4096 0)) ⇒ starts (refuses 1 0)
-    ∷ retrace_on (handed [] (replicate 4097 0)) 3 2 0 0 ⇒ retraced (refuses 1 0) (unwritten_path 3) (unwritten 2)
-    ∷ retrace_on (handed [] (replicate 4096 0)) 3 2 (1 + 8 * 4096 + 16384) 4096 ⇒ retraced (joined 0 0 0 0 (0, 0, 0)) (unwritten_path 3) (unwritten 2)
-    -- 2: P 65,537 gets it, before 3 and 5; the sum does not wrap at 2^32
-    ∷ start_on (handed [] (65537 ∷ [])) ⇒ starts (refuses 2 0)
-    ∷ start_on (handed (whole 0 ∷ whole 0 ∷ []) (4294967295 ∷ 2 ∷ [])) ⇒ starts (refuses 2 0)
-    ∷ retrace_on (handed [] (65537 ∷ [])) 3 2 0 0 ⇒ retraced (refuses 2 0) (unwritten_path 3) (unwritten 2)
-    -- 3: P 65,536 passes 2; a number too many, and one too few; before 4, 5 and 7
-    ∷ start_on (handed [] (65536 ∷ [])) ⇒ starts (refuses 3 0)
-    ∷ start_on (handed (whole 0 ∷ whole 0 ∷ whole 0 ∷ []) (1 ∷ [])) ⇒ starts (refuses 3 0)
-    ∷ start_on (handed (nan ∷ []) (1 ∷ [])) ⇒ starts (refuses 3 0)
-    ∷ start_on (handed (whole 0 ∷ whole 0 ∷ []) []) ⇒ starts (refuses 3 0)
-    ∷ retrace_on (handed [] (1 ∷ [])) 3 2 0 0 ⇒ retraced (refuses 3 0) (unwritten_path 3) (unwritten 2)
-    -- 4: a magnitude of 1,000,000 passes, and the next f64 above gets 4; so do a NaN and an infinity; the first of two gives the place
-    ∷ start_on (handed (whole 1000000 ∷ neg (whole 1000000) ∷ []) (1 ∷ [])) ⇒ starts (gives (0, forward))
-    ∷ start_on (handed (whole 0 ∷ whole 0 ∷ whole 0 ∷ above_plate_limit ∷ []) (2 ∷ [])) ⇒ starts (refuses 4 3)
-    ∷ start_on (handed (whole 0 ∷ whole 0 ∷ neg above_plate_limit ∷ nan ∷ []) (2 ∷ [])) ⇒ starts (refuses 4 2)
-    ∷ start_on (handed (whole 0 ∷ nan ∷ inf false ∷ whole 0 ∷ []) (2 ∷ [])) ⇒ starts (refuses 4 1)
-    ∷ start_on (handed (inf true ∷ whole 0 ∷ []) (1 ∷ [])) ⇒ starts (refuses 4 0)
-    -- 4 comes before 5, in each call, and alters no slice
-    ∷ order_on (handed (whole 0 ∷ nan ∷ []) (1 ∷ [])) 2 0 ⇒ ordered (refuses 4 1) (unwritten 2)
-    ∷ straight_on (handed (whole 0 ∷ nan ∷ []) (1 ∷ [])) 2 0 ⇒ straightened (refuses 4 1) (unwritten_path 2)
-    ∷ retrace_on (handed (whole 0 ∷ nan ∷ []) (1 ∷ [])) 2 2 0 0 ⇒ retraced (refuses 4 1) (unwritten_path 2) (unwritten 2)
-    -- 5: E with C = 6 needs 6 + 4 × 4 + 8 × 2 + 16,384 = 16,422 u32 and 2 f64; one short gets 5, u32 before f64, and alters no slice
-    ∷ retrace_on E 12 12 16422 2
-    ⇒ retraced (joined 6 2 2 1 (8192, 8192, 1024))
-    (along whole ((0, 0) ∷ (4, 0) ∷ (8, 0) ∷ (4, 0) ∷ (0, 0) ∷ (0, 1) ∷ []))
-    (pairs ((0, 0) ∷ (1, 0) ∷ (1, 1) ∷ (2, 1) ∷ (2, 0) ∷ (3, 3) ∷ []))
-    ∷ retrace_on E 12 12 16421 2 ⇒ retraced (refuses 5 0) (unwritten_path 12) (unwritten 12)
-    ∷ retrace_on E 12 12 16422 1 ⇒ retraced (refuses 5 1) (unwritten_path 12) (unwritten 12)
-    ∷ retrace_on E 12 12 16421 1 ⇒ retraced (refuses 5 0) (unwritten_path 12) (unwritten 12)
-    -- by C, not by the result's length; and before 6
-    ∷ retrace_on E 14 14 16422 2 ⇒ retraced (refuses 5 0) (unwritten_path 14) (unwritten 14)
-    ∷ retrace_on E 8 8 16419 2 ⇒ retraced (refuses 5 0) (unwritten_path 8) (unwritten 8)
-    -- order and straight need M u32, skipped contours counted: 6 here
-    ∷ order_on skipping 8 6 ⇒ ordered (gives 4) (pairs ((1, 0) ∷ (3, 1) ∷ (5, 0) ∷ (4, 0) ∷ []))
-    ∷ order_on skipping 4 5 ⇒ ordered (refuses 5 0) (unwritten 4)
-    ∷ straight_on skipping 8 5 ⇒ straightened (refuses 5 0) (unwritten_path 8)
-    -- 6: C is the least of both halves, rounded down; nothing after the first C entries is altered
-    ∷ retrace_on E 13 9 100000 2
-    ⇒ retraced (refuses 6 4)
-    (along whole ((0, 0) ∷ (4, 0) ∷ (8, 0) ∷ (4, 0) ∷ []) ++ unwritten_path 5)
-    (pairs ((0, 0) ∷ (1, 0) ∷ (1, 1) ∷ (2, 1) ∷ []) ++ unwritten 1)
-    ∷ retrace_on E 9 13 100000 2
-    ⇒ retraced (refuses 6 4)
-    (along whole ((0, 0) ∷ (4, 0) ∷ (8, 0) ∷ (4, 0) ∷ []) ++ unwritten_path 1)
-    (pairs ((0, 0) ∷ (1, 0) ∷ (1, 1) ∷ (2, 1) ∷ []) ++ unwritten 5)
-    ∷ order_on G 5 3 ⇒ ordered (refuses 6 2) (pairs ((0, 0) ∷ (1, 0) ∷ []) ++ unwritten 1)
-    ∷ straight_on G 5 3 ⇒ straightened (refuses 6 2) (along whole ((0, 0) ∷ (1, 0) ∷ []) ++ unwritten_path 1)
-    -- C = 0
-    ∷ retrace_on E 1 1 100000 2 ⇒ retraced (refuses 6 0) (unwritten_path 1) (unwritten 1)
-    ∷ order_on G 1 3 ⇒ ordered (refuses 6 0) (unwritten 1)
-    ∷ straight_on G 1 3 ⇒ straightened (refuses 6 0) (unwritten_path 1)
-    ∷ retrace_on A 0 0 16384 0 ⇒ retraced (joined 0 0 0 0 (0, 0, 0)) [] []
-    -- a result alters nothing beyond it
-    ∷ retrace_on E 15 16 100000 2
-    ⇒ retraced (joined 6 2 2 1 (8192, 8192, 1024))
-    (along whole ((0, 0) ∷ (4, 0) ∷ (8, 0) ∷ (4, 0) ∷ (0, 0) ∷ (0, 1) ∷ []) ++ unwritten_path 3)
-    (pairs ((0, 0) ∷ (1, 0) ∷ (1, 1) ∷ (2, 1) ∷ (2, 0) ∷ (3, 3) ∷ []) ++ unwritten 4)
-    ∷ order_on G 9 3 ⇒ ordered (gives 3) (pairs ((0, 0) ∷ (1, 0) ∷ (2, 0) ∷ []) ++ unwritten 3)
-    ∷ straight_on G 9 3 ⇒ straightened (gives 3) (along whole ((0, 0) ∷ (1, 0) ∷ (0, 1) ∷ []) ++ unwritten_path 3)
-    -- C is at most 1,048,576 for straight and retrace
-    ∷ room_in 2097154 ⇒ room 1048577 1048576 1048576
-    -- 7: the start call only; a contour that holds no point is none
-    ∷ start_on (handed [] (0 ∷ 0 ∷ [])) ⇒ starts (refuses 7 0)
-    ∷ retrace_in 1 (handed [] (0 ∷ 0 ∷ [])) ⇒ retraced (joined 0 0 0 0 (0, 0, 0)) (unwritten_path 2) (unwritten 2)
     -- ---- layers
     -- a nearer contour of a higher layer waits, in order, straight and retrace
     ∷ order_in 3 (in_layers (0 ∷ 1 ∷ 0 ∷ []) three_points) ⇒ ordered (gives 3) (pairs ((0, 0) ∷ (2, 0) ∷ (1, 0) ∷ []))
@@ -740,111 +532,50 @@ later_table =
     (along whole ((0, 0) ∷ (0, 2) ∷ (0, 0) ∷ (1, 0) ∷ []))
     ((0, 0) ∷ (3, 2) ∷ (2, 0) ∷ (3, 1) ∷ [])
     (joined 4 0 1 2 (0, 2048, 3072))
-    -- of the lowest layer the nearest is taken, though one of a higher layer is nearer
-    ∷ order_in 4 (in_layers (0 ∷ 1 ∷ 0 ∷ 0 ∷ []) four_points) ⇒ ordered (gives 4) (pairs ((0, 0) ∷ (3, 0) ∷ (2, 0) ∷ (1, 0) ∷ []))
-    ∷ retraces (in_layers (0 ∷ 1 ∷ 0 ∷ 0 ∷ []) four_points)
-    (along whole ((0, 0) ∷ (0, 2) ∷ (0, 9) ∷ (0, 2) ∷ (0, 0) ∷ (1, 0) ∷ []))
-    ((0, 0) ∷ (3, 3) ∷ (3, 2) ∷ (2, 1) ∷ (2, 0) ∷ (3, 1) ∷ [])
-    (joined 6 0 2 3 (0, 9216, 10240))
-    -- one layer for all contours, the highest: the order without layers
-    ∷ order_in 3 (in_layers (15 ∷ 15 ∷ 15 ∷ []) three_points) ⇒ ordered (gives 3) (pairs ((0, 0) ∷ (1, 0) ∷ (2, 0) ∷ []))
     -- three layers, which decide before the distance: lowest to highest, whatever their order in the slice
     ∷ order_in 3 (in_layers (15 ∷ 7 ∷ 0 ∷ []) three_points) ⇒ ordered (gives 3) (pairs ((2, 0) ∷ (1, 0) ∷ (0, 0) ∷ []))
-    ∷ retraces (in_layers (15 ∷ 7 ∷ 0 ∷ []) three_points) (along whole ((0, 2) ∷ (1, 0) ∷ (0, 0) ∷ [])) ((0, 2) ∷ (3, 1) ∷ (3, 0) ∷ []) (joined 3 0 0 2 (0, 0, 3313))
-    -- the start is in the lowest layer, though an end of another is nearer, or farther for Outside
+    -- the start is in the lowest layer, though an end of another is nearer
     ∷ start_on (in_layers (1 ∷ 0 ∷ []) (drawn whole ((0, 0) ∷ (1, 0) ∷ [] ∣ (5, 0) ∷ (3, 0) ∷ [] ∣ []) 0 0 Inside)) ⇒ starts (gives (1, reversed))
-    ∷ start_on (in_layers (3 ∷ 2 ∷ []) (drawn whole ((9, 0) ∷ [] ∣ (1, 0) ∷ (2, 0) ∷ [] ∣ []) 0 0 Outside)) ⇒ starts (gives (1, reversed))
     -- the first of a later layer is the nearest to the last end, not the one that the strategy takes
     ∷ order_in 3 (in_layers (0 ∷ 1 ∷ 1 ∷ []) (drawn whole ((0, 0) ∷ (5, 0) ∷ [] ∣ (2, 0) ∷ [] ∣ (4, 0) ∷ [] ∣ []) 0 0 Inside))
     ⇒ ordered (gives 3) (pairs ((0, 0) ∷ (2, 0) ∷ (1, 0) ∷ []))
     -- a skipped contour of a lower layer keeps no other one waiting
-    ∷ order_in 2 (in_layers (0 ∷ 2 ∷ 1 ∷ []) skipped_first) ⇒ ordered (gives 2) (pairs ((2, 0) ∷ (1, 1) ∷ []))
-    ∷ retraces (in_layers (0 ∷ 2 ∷ 1 ∷ []) skipped_first) (along whole ((5, 0) ∷ (1, 0) ∷ (0, 0) ∷ [])) ((0, 2) ∷ (3, 1) ∷ (1, 0) ∷ []) (joined 3 1 0 1 (1024, 0, 4096))
-    -- samples of a higher layer are queried after the start, and after each contour of a lower layer
-    ∷ retraces (in_layers (0 ∷ 1 ∷ 0 ∷ []) (drawn whole ((0, 0) ∷ [] ∣ (9, 3) ∷ (0, 3) ∷ [] ∣ (20, 0) ∷ [] ∣ []) 0 0 Inside))
-    (along whole ((0, 0) ∷ (20, 0) ∷ (0, 0) ∷ (0, 3) ∷ (9, 3) ∷ []))
-    ((0, 0) ∷ (3, 3) ∷ (2, 0) ∷ (3, 2) ∷ (1, 1) ∷ [])
-    (joined 5 1 1 2 (9216, 20480, 23552))
+    ∷ retraces (in_layers (0 ∷ 2 ∷ 1 ∷ []) (drawn whole ([] ∣ (0, 0) ∷ (1, 0) ∷ [] ∣ (5, 0) ∷ [] ∣ []) 0 0 Inside)) (along whole ((5, 0) ∷ (1, 0) ∷ (0, 0) ∷ [])) ((0, 2) ∷ (3, 1) ∷ (1, 0) ∷ []) (joined 3 1 0 1 (1024, 0, 4096))
+    -- samples of a higher layer are queried after each contour of a lower layer
     ∷ retraces (in_layers (0 ∷ 1 ∷ 0 ∷ []) (drawn whole ((0, 0) ∷ [] ∣ (0, 3) ∷ (9, 0) ∷ [] ∣ (9, 0) ∷ [] ∣ []) 0 0 Inside))
     (along whole ((0, 0) ∷ (9, 0) ∷ (9, 0) ∷ (0, 3) ∷ []))
     ((0, 0) ∷ (3, 3) ∷ (4, 2) ∷ (1, 1) ∷ [])
     (touching 4 1 0 1 1 (9714, 0, 9216))
-    -- 13: a wrong length of the slice comes first, place M; then the first contour with a layer above 15, a skipped one too
+    -- 13: a wrong length of the slice, too short or too long, comes first, place M; then the first contour with a layer above 15, a skipped one too
     ∷ start_on (in_layers (16 ∷ 0 ∷ []) three_points) ⇒ starts (refuses 13 3)
     ∷ start_on (in_layers (0 ∷ 0 ∷ 0 ∷ 0 ∷ []) three_points) ⇒ starts (refuses 13 3)
-    ∷ start_on (in_layers (0 ∷ []) A) ⇒ starts (refuses 13 0)
     ∷ order_in 3 (in_layers (15 ∷ 16 ∷ 17 ∷ []) three_points) ⇒ ordered (refuses 13 1) (unwritten 6)
     ∷ straight_in 2 (in_layers (0 ∷ 0 ∷ 0 ∷ 0 ∷ 0 ∷ 4294967295 ∷ []) skipping) ⇒ straightened (refuses 13 5) (unwritten_path 4)
-    ∷ retrace_in 3 (in_layers (0 ∷ 16 ∷ 0 ∷ []) three_points) ⇒ retraced (refuses 13 1) (unwritten_path 6) (unwritten 6)
-    ∷ retrace_in 1 (in_layers (16 ∷ 0 ∷ []) (handed [] (0 ∷ 0 ∷ []))) ⇒ retraced (refuses 13 0) (unwritten_path 2) (unwritten 2)
-    -- 1, 2 and 3 before 13, of either kind
-    ∷ start_on (in_layers [] (handed [] (replicate 4097 0))) ⇒ starts (refuses 1 0)
-    ∷ start_on (in_layers (replicate 4097 16) (handed [] (replicate 4097 0))) ⇒ starts (refuses 1 0)
-    ∷ start_on (in_layers [] (handed [] (65537 ∷ []))) ⇒ starts (refuses 2 0)
-    ∷ start_on (in_layers (16 ∷ []) (handed [] (65537 ∷ []))) ⇒ starts (refuses 2 0)
+    -- 3 before 13, and 13 before 4
     ∷ start_on (in_layers [] (handed (nan ∷ []) (1 ∷ []))) ⇒ starts (refuses 3 0)
-    ∷ start_on (in_layers (16 ∷ []) (handed (nan ∷ []) (1 ∷ []))) ⇒ starts (refuses 3 0)
-    -- 13, of either kind, before 4; 13 before 5, 6 and 7
     ∷ start_on (in_layers (16 ∷ []) (handed (nan ∷ nan ∷ []) (1 ∷ []))) ⇒ starts (refuses 13 0)
-    ∷ start_on (in_layers [] (handed (nan ∷ nan ∷ []) (1 ∷ []))) ⇒ starts (refuses 13 1)
-    ∷ order_on (in_layers (16 ∷ 0 ∷ 0 ∷ []) three_points) 0 0 ⇒ ordered (refuses 13 0) []
-    ∷ order_on (in_layers (16 ∷ 0 ∷ 0 ∷ []) three_points) 4 3 ⇒ ordered (refuses 13 0) (unwritten 4)
-    ∷ straight_on (in_layers (16 ∷ 0 ∷ 0 ∷ []) three_points) 0 0 ⇒ straightened (refuses 13 0) []
-    ∷ retrace_on (in_layers (16 ∷ 0 ∷ 0 ∷ []) three_points) 0 0 0 0 ⇒ retraced (refuses 13 0) [] []
-    ∷ start_on (in_layers (16 ∷ []) (handed [] (0 ∷ []))) ⇒ starts (refuses 13 0)
     -- What no call reaches, since it refuses with 13: a contour with a layer above 15 is never chosen, and the vertex numbers of later contours count its
     -- points.
     ∷ rules_on (in_layers (16 ∷ 15 ∷ 17 ∷ []) three_points) ⇒ ruled (gives (1, forward)) (pairs ((1, 0) ∷ [])) (pairs ((0, 1) ∷ []))
     ∷ rules_on (in_layers (16 ∷ 17 ∷ 16 ∷ []) three_points) ⇒ ruled (refuses 7 0) [] []
-    -- ---- the parked point
-    -- parked on a last point
-    ∷ start_on (home 4 0 D) ⇒ starts (gives (0, reversed))
-    -- of equal ends the first point comes before the last, and a contour's last point before a later contour's first
-    ∷ start_on (home 2 0 (B Inside)) ⇒ starts (gives (0, forward))
-    ∷ start_on (home 4 0 (drawn whole ((9, 9) ∷ (4, 0) ∷ [] ∣ (4, 0) ∷ (9, 9) ∷ [] ∣ []) 0 0 Inside)) ⇒ starts (gives (0, reversed))
-    -- a smaller distance wins over an earlier end; the centre does not count, whatever the size
-    ∷ start_on (home 90 0 (drawn whole ((0, 0) ∷ (4, 0) ∷ [] ∣ (90, 0) ∷ (95, 0) ∷ [] ∣ []) 10 10 Inside)) ⇒ starts (gives (1, forward))
-    -- −0 and a subnormal number pass; with 2^−537 the squared distances are 2^−1074 and 0
-    ∷ start_on (handed_with_home (point (neg (whole 0)) (binary 1 1074)) (along whole ((0, 1) ∷ (0, 0) ∷ [])) (2 ∷ [])) ⇒ starts (gives (0, reversed))
-    ∷ start_on (handed_with_home (point (binary 1 537) (whole 0)) (whole 0 ∷ whole 0 ∷ binary 1 537 ∷ whole 0 ∷ []) (2 ∷ [])) ⇒ starts (gives (0, reversed))
-    -- a magnitude of 1,000,000 passes, however far the contours are
-    ∷ start_on (with_home (point (whole 1000000) (neg (whole 1000000))) (B Inside)) ⇒ starts (gives (0, reversed))
-    ∷ start_on (with_home (point (neg (whole 1000000)) (whole 1000000)) (B Inside)) ⇒ starts (gives (0, forward))
-    -- 4: the next f64 above gets it, place 0 or 1 within the point; so do an infinity and a NaN; the first of two gives the place
-    ∷ start_on (with_home (point above_plate_limit nan) D) ⇒ starts (refuses 4 0)
-    ∷ start_on (with_home (point (whole 0) (neg above_plate_limit)) D) ⇒ starts (refuses 4 1)
-    ∷ start_on (with_home (point (inf true) (whole 0)) D) ⇒ starts (refuses 4 0)
-    -- before the coordinates' own 4, whose place is in the slice
-    ∷ start_on (handed_with_home (point (whole 0) nan) (nan ∷ whole 0 ∷ []) (1 ∷ [])) ⇒ starts (refuses 4 1)
-    ∷ start_on (handed_with_home zero_point (whole 0 ∷ whole 0 ∷ nan ∷ whole 0 ∷ []) (2 ∷ [])) ⇒ starts (refuses 4 2)
-    -- after 3 and both kinds of 13; before 5, in each call, and 7; no slice is altered
-    ∷ start_on (handed_with_home (point nan nan) (whole 0 ∷ []) (1 ∷ [])) ⇒ starts (refuses 3 0)
-    ∷ start_on (in_layers (0 ∷ []) (with_home (point nan nan) D)) ⇒ starts (refuses 13 2)
-    ∷ start_on (in_layers (0 ∷ 16 ∷ []) (with_home (point nan nan) D)) ⇒ starts (refuses 13 1)
-    ∷ order_on (with_home (point (whole 0) nan) D) 4 0 ⇒ ordered (refuses 4 1) (unwritten 4)
-    ∷ straight_on (with_home (point (whole 0) nan) D) 4 0 ⇒ straightened (refuses 4 1) (unwritten_path 4)
-    ∷ retrace_on (with_home (point (whole 0) nan) D) 4 4 0 0 ⇒ retraced (refuses 4 1) (unwritten_path 4) (unwritten 4)
-    ∷ start_on (with_home (point (whole 0) nan) A) ⇒ starts (refuses 4 1)
-    -- order and straight; the nearest end of the lowest layer, though one of another layer is nearer
-    ∷ order_in 3 (home 1 0 three_points) ⇒ ordered (gives 3) (pairs ((1, 0) ∷ (0, 0) ∷ (2, 0) ∷ []))
-    ∷ straight_in 3 (home 1 0 three_points) ⇒ straightened (gives 3) (along whole ((1, 0) ∷ (0, 0) ∷ (0, 2) ∷ []))
-    ∷ order_in 4 (in_layers (1 ∷ 0 ∷ 0 ∷ 0 ∷ []) (home 3 0 (drawn whole ((3, 0) ∷ [] ∣ (0, 0) ∷ [] ∣ (1, 0) ∷ (2, 0) ∷ [] ∣ (9, 0) ∷ [] ∣ []) 0 0 Inside)))
-    ⇒ ordered (gives 4) (pairs ((2, 1) ∷ (1, 0) ∷ (3, 0) ∷ (0, 0) ∷ []))
-    -- retrace: F from (9,1), which is another path than F's own; refusal 6 leaves the first C points
-    ∷ retraces (home 9 1 F)
-    (along whole ((8, 1) ∷ (4, 1) ∷ (0, 1) ∷ (4, 1) ∷ (4, 0) ∷ []))
-    ((0, 3) ∷ (1, 2) ∷ (1, 1) ∷ (2, 1) ∷ (3, 0) ∷ [])
+    -- ---- the plate's box
+    -- the grid, and the samples by it, lie over the plate's box: where the cells are larger than the contour only its ends are samples
+    ∷ retraces over_middle
+    (along whole ((4, 1) ∷ (4, 0) ∷ (8, 0) ∷ (4, 0) ∷ (0, 0) ∷ []))
+    ((0, 0) ∷ (3, 2) ∷ (1, 2) ∷ (2, 1) ∷ (1, 1) ∷ [])
     (joined 5 2 1 1 (8192, 4096, 1024))
-    ∷ retrace_in 3 (home 9 1 F)
-    ⇒ retraced (refuses 6 3) (along whole ((8, 1) ∷ (4, 1) ∷ (0, 1) ∷ [])) (pairs ((0, 3) ∷ (1, 2) ∷ (1, 1) ∷ []))
+    ∷ retraces (in_wide_box over_middle)
+    (along whole ((4, 1) ∷ (0, 0) ∷ (4, 0) ∷ (8, 0) ∷ []))
+    ((0, 0) ∷ (3, 1) ∷ (1, 1) ∷ (1, 2) ∷ [])
+    (joined 4 2 0 1 (8192, 0, 4222))
     ∷ []
 
 -- each row's reply is what the definitions reply
 pub plates : map (λ r. reply_to r.call) table ≡ map (λ r. r.reply) table
 unfolding
-    table whole decimal binary tenths minus_tenths hundredths thousandths sixteenths sixty_fourths ◌∣◌ along points_of drawn handed in_layers point with_home home handed_with_home pairs
+    table whole decimal binary hundredths thousandths sixteenths ◌∣◌ along points_of drawn handed in_layers point with_home home handed_with_home pairs
     unwritten unwritten_path forward reversed touching joined ◌⇒◌ order_in straight_in retrace_in retraces numeral computed both_computed measured reply_to
-    A B C D E F G zero_point I skipping middled over_middle in_wide_box three_points four_points skipped_first above_plate_limit above_distance_limit
+    A B C D E F G zero_point I skipping over_middle in_wide_box three_points above_plate_limit above_distance_limit
     -- floats
     neg add sub mul div rem le eq of_int to_unsigned
     -- Tools, HandedOver
@@ -859,7 +590,7 @@ unfolding
     -- SamplesAndCache
     sampled_after sampled cell_number cell_at sample_at samples_from samples cache cached query_sample seeded
     met listed listed_row listed_square listed_around cells_around query_in updated_in updated waiting ask_path keep seed update
-    -- RetraceAndMarks
+    -- Marks, Retrace
     coincide landing_kind land cut_up cut_down back_step step_at vertex_of walk_to walk_back forwardSteps backward return_to both_ways emit entry_of begin path_points closer waiting_layer choose waiting_number place_in
     entered join_all retrace_from retrace_of retrace coordinates marks kind_at count_marks marks_of
     -- OrderAndStraight, Calls
@@ -868,32 +599,3 @@ unfolding
     -- Lengths
     in_1024ths pair_length counted_length length_along
 plates = refl
-
-pub later_plates : map (λ r. reply_to r.call) later_table ≡ map (λ r. r.reply) later_table
-unfolding
-    later_table whole decimal binary tenths minus_tenths hundredths thousandths sixteenths sixty_fourths ◌∣◌ along points_of drawn handed in_layers point with_home home handed_with_home pairs
-    unwritten unwritten_path forward reversed touching joined ◌⇒◌ order_in straight_in retrace_in retraces numeral computed both_computed measured reply_to
-    A B C D E F G zero_point I skipping middled over_middle in_wide_box three_points four_points skipped_first above_plate_limit above_distance_limit
-    -- floats
-    neg add sub mul div rem le eq of_int to_unsigned
-    -- Tools, HandedOver
-    pick sum without having least leads winner highest_layer lowest foremost lesser greater plate parked_plate at contours_from contours vertex_at layer_at order_room straight_room retrace_room
-    in_range plate_limit distance_limit first_off first_bad refused_by too_many_contours too_many_points miscounted bad_layer_count bad_layer out_of_range off_the_plate
-    work_short full parked_coordinates input_rows order_rows retrace_work retrace_rows over after
-    -- Distances, Start
-    mul_add root_by floor_root round_root sqrt distance_squared distance half centre measured_from oriented ends layer_of beats start
-    -- GridAndNearest
-    widen box_from box cell_size ceiling cells_along grid_of index_along cell_of square within on_border
-    seen_from found wins nearer scan_ring bound beyond scan_from nearest
-    -- SamplesAndCache
-    sampled_after sampled cell_number cell_at sample_at samples_from samples cache cached query_sample seeded
-    met listed listed_row listed_square listed_around cells_around query_in updated_in updated waiting ask_path keep seed update
-    -- RetraceAndMarks
-    coincide landing_kind land cut_up cut_down back_step step_at vertex_of walk_to walk_back forwardSteps backward return_to both_ways emit entry_of begin path_points closer waiting_layer choose waiting_number place_in
-    entered join_all retrace_from retrace_of retrace coordinates marks kind_at count_marks marks_of
-    -- OrderAndStraight, Calls
-    last_end nearer_sense nearer_end contour_number order_after order_from order_of order entries straight
-    distance_call start_or start_call order_call straight_call totals path_totals vertices retrace_call
-    -- Lengths
-    in_1024ths pair_length counted_length length_along
-later_plates = refl

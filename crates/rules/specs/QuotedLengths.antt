@@ -4,10 +4,10 @@ use Rattle.std.specs.Float.Ieee.{round, neg, add, sub, mul, of_int}
 use Rattle.rules.specs.Tools.{pick, sum}
 use Rattle.rules.specs.HandedOver.{plate, parked_plate, at, contours_from, contours}
 use Rattle.rules.specs.Distances.{mul_add, root_by, floor_root, round_root, sqrt, distance_squared, distance}
-use Rattle.rules.specs.RetraceAndMarks.{kind_at, count_marks, marks_of}
+use Rattle.rules.specs.Marks.{kind_at, count_marks, marks_of}
 use Rattle.rules.specs.Lengths.{in_1024ths, pair_length, segment_length, contour_length, plate_length, counted_length, length_along}
 use Rattle.rules.specs.Calls.{totals}
-use Rattle.rules.specs.MarkedPlates.{whole, decimal, binary, pairs}
+use Rattle.rules.specs.Plates.{whole, decimal, binary, pairs}
 use Rattle.rules.specs.declared.Totals.{Totals}
 
 -- ---- numbers and slices

@@ -80,8 +80,10 @@ pub enum RecoveryRefusal {
     NoRoom,
 }
 
-// A path has at most so many points.
+// A path has at most so many points, and a grid so many cells.
 pub const MOST_PATH_POINTS: usize = 1048576;
+
+pub const MOST_CELLS: usize = 2916;
 
 // Layers are 0 to this.
 pub const HIGHEST_LAYER: u32 = 15;

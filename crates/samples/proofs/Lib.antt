@@ -1,3 +1,3 @@
-pub mod Sampling
-pub mod Marking
-pub mod Pushing
+pub mod SampleWalk
+pub mod ContourMarks
+pub mod ChainPush

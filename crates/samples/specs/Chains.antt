@@ -5,8 +5,8 @@ use Rattle.rules.specs.Tools.{pick}
 use Rattle.rules.specs.HandedOver.{at}
 use Rattle.rules.specs.SamplesAndCache.{cell_at}
 use Rattle.rules.specs.declared.SpatialGrid.{SpatialGrid}
-use Rattle.layout.specs.Parts.{from}
-use Rattle.layout.specs.declared.Layout.{Layout}
+use Rattle.work_layout.specs.Parts.{from}
+use Rattle.work_layout.specs.declared.Layout.{Layout}
 
 -- 1 more than the first of the m numbers from k on that passes, or 0 where none does
 unfoldable pub first_of : (ℕ → Bool) → ℕ → ℕ → ℕ
@@ -14,7 +14,7 @@ first_of P zero k = zero
 first_of P (suc m) k = pick (P k) (suc k) (first_of P m (suc k))
 
 -- the chains of the numbers from v to n that pass, one for each cell: `test c k` says that k passes and lies in cell c
-pub record Rising (heads next : ℕ → ℕ) (test : ℕ → ℕ → Bool) (cells n v : ℕ) : Type 0 where
+pub record RisingChains (heads next : ℕ → ℕ) (test : ℕ → ℕ → Bool) (cells n v : ℕ) : Type 0 where
   pub head : (c : ℕ) → c < cells → heads c ≡ first_of (test c) (n - v) v
   pub succ : (c k : ℕ) → c < cells → v ≤ k → k < n → test c k ≡ true → next k ≡ first_of (test c) (n - suc k) (suc k)
 
@@ -23,6 +23,6 @@ unfoldable pub is_in_cell : (ℕ → ℕ) → (ℕ → ℕ) → ℕ → ℕ → 
 is_in_cell owner cell c v = ltb 0 (owner v) && eqb (cell v) c
 
 -- the chains in the slice w of the samples from vertex v on
-abbrev pub Chained : List Float → SpatialGrid → Layout → (ℕ → ℕ) → List ℕ → ℕ → Type 0
-Chained xs g lay owner w v =
-    Rising (from w lay.heads) (from w lay.next) (is_in_cell owner (cell_at (at xs) g)) lay.cells lay.points v
+abbrev pub ChainedSamples : List Float → SpatialGrid → Layout → (ℕ → ℕ) → List ℕ → ℕ → Type 0
+ChainedSamples xs g lay owner w v =
+    RisingChains (from w lay.heads) (from w lay.next) (is_in_cell owner (cell_at (at xs) g)) lay.cells lay.points v

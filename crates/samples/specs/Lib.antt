@@ -1,7 +1,7 @@
 pub mod Vertices
 pub mod Owners
-pub mod Owning
-pub mod Plated
+pub mod OwnerLaws
+pub mod PlatedSlice
 pub mod Chains
 pub mod Walks
-pub mod Framed
+pub mod FrameSamples

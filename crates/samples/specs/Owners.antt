@@ -3,13 +3,13 @@ use Rattle.std.specs.Prelude.{◌≡◌, Bool, false, List, ℕ, suc, ◌+◌, �
 use Rattle.rules.specs.Tools.{pick, sum}
 use Rattle.rules.specs.HandedOver.{Contour, contours_from}
 use Rattle.rules.specs.SamplesAndCache.{sampled}
-use Rattle.path.specs.Lists.{All}
+use Rattle.plate_laws.specs.Lists.{All}
 use Rattle.samples.specs.Vertices.{vertex_from}
 
 -- ---- what is written
 
 -- the owners after contour c was marked: its own vertices by whether they are samples; the others are as they were
-pub record Marked (xs : List Float) (s : Float) (c : Contour) (owners owners' : List ℕ) : Type 0 where
+pub record MarkedContour (xs : List Float) (s : Float) (c : Contour) (owners owners' : List ℕ) : Type 0 where
   pub inside : (i : ℕ) → i ≤ c.last →
       get_or owners' (c.first + i) 0 ≡ pick (get_or (sampled (vertex_from xs c.first) s c.last) i false) (suc c.number) 0
   pub before : (v : ℕ) → v < c.first → get_or owners' v 0 ≡ get_or owners v 0

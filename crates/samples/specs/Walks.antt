@@ -14,7 +14,7 @@ fold_from P step zero k acc = acc
 fold_from P step (suc m) k acc = fold_from P step m (suc k) (pick (P k) (step k acc) acc)
 
 -- j is the first of the m numbers from k on that passes: the fold begins with it and goes on behind it
-pub record Step {A : Type 0} (P : ℕ → Bool) (step : ℕ → A → A) (m k : ℕ) (acc : A) (j : ℕ) : Type 0 where
+pub record FoldStep {A : Type 0} (P : ℕ → Bool) (step : ℕ → A → A) (m k : ℕ) (acc : A) (j : ℕ) : Type 0 where
   pub passes : P j ≡ true
   pub from_k : k ≤ j
   pub below : j < k + m
@@ -33,17 +33,17 @@ module _ {A : Type 0} (P : ℕ → Bool) (step : ℕ → A → A) where
       go false e h = h e
 
   -- a chain's link
-  pub fold_first : (m k : ℕ) (acc : A) (j : ℕ) → first_of P m k ≡ suc j → Step P step m k acc j
+  pub fold_first : (m k : ℕ) (acc : A) (j : ℕ) → first_of P m k ≡ suc j → FoldStep P step m k acc j
   unfolding fold_from first_of pick
   fold_first zero k acc j e = absurd (omega arith)
   fold_first (suc m) k acc j e = go (P k) refl e (fold_first m (suc k) acc j)
     where
-      go : (b : Bool) → P k ≡ b → pick b (suc k) (first_of P m (suc k)) ≡ suc j → (first_of P m (suc k) ≡ suc j → Step P step m (suc k) acc j) →
-          Step P step (suc m) k acc j
+      go : (b : Bool) → P k ≡ b → pick b (suc k) (first_of P m (suc k)) ≡ suc j → (first_of P m (suc k) ≡ suc j → FoldStep P step m (suc k) acc j) →
+          FoldStep P step (suc m) k acc j
       go true w e h =
           let q : k ≡ j = omega arith in
           let r : k + suc m - suc k ≡ m = omega arith in
-          subst (Step P step (suc m) k acc) q record { passes = w; from_k = omega arith; below = omega arith; fold = rw (w, r) }
+          subst (FoldStep P step (suc m) k acc) q record { passes = w; from_k = omega arith; below = omega arith; fold = rw (w, r) }
       go false w e h =
           let s = h e in
           let r : suc k + m - suc j ≡ k + suc m - suc j = omega arith in

@@ -4,22 +4,22 @@
 ghost use Rattle.std.specs.Prelude.{◌≡◌, ◌||◌, ℕ, ◌+◌, ◌*◌, ◌≤◌, ◌<◌, eqb, length};
 ghost use Rattle.std.specs.Float.Ieee as Ieee;
 ghost use Rattle.std.specs.Float.{binary64};
+ghost use Rattle.rules.specs.Limits.{most_contours, most_points};
 ghost use Rattle.rules.specs.Tools.{pick, sum};
 ghost use Rattle.rules.specs.HandedOver.{at};
 ghost use Rattle.rules.specs.Distances as distances;
 ghost use Rattle.rules.specs.SamplesAndCache.{cell_at};
-ghost use Rattle.start.specs.Oriented.{contour_of};
-ghost use Rattle.layout.specs.Parts.{from, KeptBelow, KeptFrom};
-ghost use Rattle.samples.specs.Owners.{Marked, MarkedAll};
-ghost use Rattle.samples.specs.Framed.{PlatedBy, ChainedBy};
+ghost use Rattle.contours.specs.ContourOf.{contour_of};
+ghost use Rattle.work_layout.specs.Parts.{from, KeptBelow, KeptFrom};
+ghost use Rattle.samples.specs.Owners.{MarkedContour, MarkedAll};
+ghost use Rattle.samples.specs.FrameSamples.{PlatedBy, ChainedBy};
 
+use contours::{ContourRange, Contours};
 use grid::Grid;
-use layout::Layout;
 use point::distance;
 use remainder::remainder;
 use rules::{Vertex, point_at};
-use start::Contour;
-use start::contours::Contours;
+use work_layout::Layout;
 
 // A plate's points and grid, and how the parts of the lent slice lie for them. That the frame and the slice belong together stands in contracts, as
 // `PlatedBy frame work` and `Laid lay (length work)`, and in no type: both speak of the work slice, which is written between calls, so that a type that held
@@ -59,7 +59,8 @@ fn owner_if(sample: bool, owner: u32) -> u32
 
 // The distance from a vertex to the next.
 fn segment(points: &[f64], v: Vertex) -> f64
-    requires { (v.0 < 65536) × (2 * v.0 + 3 < length points.now) }
+    requires vertex { v.0 < most_points }
+    requires inside { 2 * v.0 + 3 < length points.now }
     ensures { result ≡ distances.distance (at points.now v.0) (at points.now (v.0 + 1)) }
 {
     let next = Vertex(v.0 + 1);
@@ -68,10 +69,17 @@ fn segment(points: &[f64], v: Vertex) -> f64
 
 // Marks the samples of one contour with its number and 1, and its other vertices with 0. Owners, and the heads and links below, are words and no `Option`s:
 // C lends one slice of u32 for all of them, and there is no heap.
-pub fn arc_length_sample_indices(points: &[f64], owners: &mut [u32], resolution: f64, c: Contour)
-    requires { (c.number < 4096) × (c.first.0 + c.last < length owners.old) × (length owners.old ≤ 65536)
-        × (2 * length owners.old ≤ length points.now) }
-    ensures { Marked points.now resolution (contour_of c) owners.old owners.new }
+pub fn arc_length_sample_indices(
+    points: &[f64],
+    owners: &mut [u32],
+    resolution: f64,
+    c: ContourRange,
+)
+    requires number { c.number < most_contours }
+    requires within { c.first.0 + c.last < length owners.old }
+    requires few { length owners.old ≤ most_points }
+    requires points { 2 * length owners.old ≤ length points.now }
+    ensures { MarkedContour points.now resolution (contour_of c) owners.old owners.new }
 {
     let owner = c.number + 1;
     let first = c.first.0;
@@ -89,10 +97,12 @@ pub fn arc_length_sample_indices(points: &[f64], owners: &mut [u32], resolution:
 }
 
 // Marks the samples of every contour.
-#[tactic(auto, using(crate::proofs::Marking::so_far_none, crate::proofs::Marking::so_far_next, crate::proofs::Marking::so_far_done))]
+#[tactic(auto, using(crate::proofs::ContourMarks::so_far_none, crate::proofs::ContourMarks::so_far_next, crate::proofs::ContourMarks::so_far_done))]
 pub fn mark_samples(points: &[f64], lengths: &[u32], owners: &mut [u32], resolution: f64)
-    requires { (length lengths.now ≤ 4096) × (sum lengths.now ≡ length owners.old) × (length owners.old ≤ 65536)
-        × (2 * length owners.old ≤ length points.now) }
+    requires contours { length lengths.now ≤ most_contours }
+    requires counted { sum lengths.now ≡ length owners.old }
+    requires few { length owners.old ≤ most_points }
+    requires points { 2 * length owners.old ≤ length points.now }
     ensures { MarkedAll points.now resolution lengths.now owners.new }
 {
     for c in Contours::of(lengths) {
@@ -104,8 +114,8 @@ pub fn mark_samples(points: &[f64], lengths: &[u32], owners: &mut [u32], resolut
 #[tactic(auto, unfolding(rules::specs::SamplesAndCache::cell_at, rules::specs::SamplesAndCache::cell_number))]
 fn cell_at(frame: &Frame<'_>, v: Vertex) -> u32
     requires { 2 * v.0 + 1 < length frame.now.points.now }
-    ensures { (result ≡ cell_at (at frame.now.points.now) frame.now.grid.spatial v.0)
-        × (result < frame.now.grid.spatial.cols * frame.now.grid.spatial.rows) }
+    ensures cell { result ≡ cell_at (at frame.now.points.now) frame.now.grid.spatial v.0 }
+    ensures below { result < frame.now.grid.spatial.cols * frame.now.grid.spatial.rows }
 {
     let cell = frame.grid.cell_of(point_at(frame.points, v));
     frame.grid.cell_number(cell)
@@ -113,10 +123,12 @@ fn cell_at(frame: &Frame<'_>, v: Vertex) -> u32
 
 // Puts a vertex in front of its cell's chain, if it is a sample.
 fn push_sample(frame: &Frame<'_>, work: &mut [u32], v: Vertex)
-    requires { (PlatedBy frame.now work.old) × (v.0 < frame.now.layout.points)
-        × (ChainedBy frame.now (from work.old frame.now.layout.owners) work.old (v.0 + 1)) }
-    ensures { (ChainedBy frame.now (from work.old frame.now.layout.owners) work.new v.0)
-        × (KeptFrom frame.now.layout.owners work.old work.new) × (KeptBelow frame.now.layout.heads work.old work.new) }
+    requires plated { PlatedBy frame.now work.old }
+    requires vertex { v.0 < frame.now.layout.points }
+    requires chained { ChainedBy frame.now (from work.old frame.now.layout.owners) work.old (v.0 + 1) }
+    ensures chained { ChainedBy frame.now (from work.old frame.now.layout.owners) work.new v.0 }
+    ensures above { KeptFrom frame.now.layout.owners work.old work.new }
+    ensures below { KeptBelow frame.now.layout.heads work.old work.new }
 {
     let lay = frame.layout;
     let o = lay.owners + (v.0 as usize);
@@ -129,12 +141,13 @@ fn push_sample(frame: &Frame<'_>, work: &mut [u32], v: Vertex)
 }
 
 // Chains the samples of each cell in rising order: from the last vertex down, each is put in front. No cell has a chain before.
-#[tactic(auto, using(crate::proofs::Pushing::rising_none, crate::specs::Plated::plated_kept, crate::specs::Plated::from_kept))]
+#[tactic(auto, using(crate::proofs::ChainPush::rising_none, crate::specs::PlatedSlice::plated_kept, crate::specs::PlatedSlice::from_kept))]
 pub fn chain_samples(frame: &Frame<'_>, work: &mut [u32])
-    requires { (PlatedBy frame.now work.old)
-        × ((c : ℕ) → c < frame.now.layout.cells → from work.old frame.now.layout.heads c ≡ 0) }
-    ensures { (ChainedBy frame.now (from work.old frame.now.layout.owners) work.new 0)
-        × (KeptFrom frame.now.layout.owners work.old work.new) × (KeptBelow frame.now.layout.heads work.old work.new) }
+    requires plated { PlatedBy frame.now work.old }
+    requires empty { (c : ℕ) → c < frame.now.layout.cells → from work.old frame.now.layout.heads c ≡ 0 }
+    ensures chained { ChainedBy frame.now (from work.old frame.now.layout.owners) work.new 0 }
+    ensures above { KeptFrom frame.now.layout.owners work.old work.new }
+    ensures below { KeptBelow frame.now.layout.heads work.old work.new }
 {
     let n = frame.layout.points as u32;
     for v in (0..n).rev() {

@@ -11,8 +11,8 @@ use borrow.Author.Tests.{lt-ltb, le-ltb, ne_eqb}
 use Rattle.rules.specs.Tools.{pick}
 use Rattle.rules.specs.HandedOver.{Plate, Answer, gives, refuses, number_of, place_of, refusal, RefusalRow, refused_by, work_short, full, plate_rows, order_rows, over, after, frees_work, WorkKept}
 use Rattle.rules.specs.declared.Refusal.{Refusal}
-use Rattle.path.specs.Rows.{Other, Lacks, rows_give, rows_pass, rows_append, rows_refuse, refusal_refuses, rows_lack}
-use Rattle.path.specs.Accepted.{input_lacks}
+use Rattle.plate_laws.specs.Rows.{Other, Lacks, rows_give, rows_pass, rows_append, rows_refuse, refusal_refuses, rows_lack}
+use Rattle.plate_laws.specs.Accepted.{input_lacks}
 
 -- ---- rows without refusal 6 alter no slice
 
@@ -34,9 +34,11 @@ work_same (refuses n k) work = λ t. refl
 abbrev pub outcome : Plate → ℕ → ℕ → ℕ → Answer ℕ
 outcome p w c n = refused_by (order_rows p w c n) (gives n)
 
--- `a` is the call's answer, `now` the output slice afterwards, and `work` the work slice before and afterwards
-abbrev pub Met : {B : Type 0} → Answer ℕ → ℕ → List B → List B → Answer ℕ → List B → List ℕ → List ℕ → Type 0
-Met o c result slice a now work worked = (a ≡ o) × (now ≡ after o c result slice) × WorkKept o work worked
+-- `a` is the call's answer, `now` the output slice afterwards, and `work` and `worked` the work slice before and afterwards
+pub record OutcomeMet {B : Type 0} (o : Answer ℕ) (c : ℕ) (result slice : List B) (a : Answer ℕ) (now : List B) (work worked : List ℕ) : Type 0 where
+  pub answer : a ≡ o
+  pub written : now ≡ after o c result slice
+  pub kept : WorkKept o work worked
 
 module _ {B : Type 0} (p : Plate) (w c n : ℕ) (result slice : List B) (work : List ℕ) where
   -- the rows behind those of the plate
@@ -47,31 +49,32 @@ module _ {B : Type 0} (p : Plate) (w c n : ℕ) (result slice : List B) (work : 
   unfolding order_rows
   behind = rows_append (plate_rows p) rows (gives n)
 
-  pub met_refused : (r : Refusal) (m : ℕ) → refusal r ≡ refused_by (plate_rows p) (gives m) → Met (outcome p w c n) c result slice (refusal r) slice work work
+  pub met_refused : (r : Refusal) (m : ℕ) → refusal r ≡ refused_by (plate_rows p) (gives m) → OutcomeMet (outcome p w c n) c result slice (refusal r) slice work work
   met_refused r m h =
       let lacks = (input_lacks p.points p.lengths p.layers p.strategy).0 in
-      rw behind (refusal_refuses (plate_rows p) r m _ h, after_rows (plate_rows p) lacks r m _ c result slice h, work_same _ work)
+      rw behind
+      (record { answer = refusal_refuses (plate_rows p) r m _ h; written = after_rows (plate_rows p) lacks r m _ c result slice h; kept = work_same _ work })
 
   module _ (m k : ℕ) (sound : refused_by (plate_rows p) (gives m) ≡ gives k) where
     passed : outcome p w c n ≡ refused_by rows (gives n)
     passed = behind ∙ rows_pass (plate_rows p) (rows_give (plate_rows p) _ k sound).0 _
 
-    pub met_short : w < length p.lengths → Met (outcome p w c n) c result slice (refuses 5 0) slice work work
+    pub met_short : w < length p.lengths → OutcomeMet (outcome p w c n) c result slice (refuses 5 0) slice work work
     unfolding refused_by work_short after pick
-    met_short h = rw (passed, lt-ltb w (length p.lengths) h) (refl, refl, work_same _ work)
+    met_short h = rw (passed, lt-ltb w (length p.lengths) h) (record { answer = refl; written = refl; kept = work_same _ work })
 
     -- as many of the result were written as there is room for
     module _ (enough : length p.lengths ≤ w) (room count : ℕ) (room_is : room ≡ c) (count_is : count ≡ n) (now : List B)
         (written : now ≡ over (take (2 * room) result) slice) (worked : List ℕ) where
-      pub met_full : room < count → Met (outcome p w c n) c result slice (refuses 6 room) now work worked
+      pub met_full : room < count → OutcomeMet (outcome p w c n) c result slice (refuses 6 room) now work worked
       unfolding refused_by work_short full after pick frees_work WorkKept
       met_full h =
           let e : c < n = omega arith in
-          rw (passed, le-ltb w (length p.lengths) enough, lt-ltb c n e, ← room_is) (refl, written, λ t. absurd t)
+          rw (passed, le-ltb w (length p.lengths) enough, lt-ltb c n e, ← room_is) (record { answer = refl; written = written; kept = λ t. absurd t })
 
-      pub met_whole : length result ≡ 2 * n → count ≤ room → Met (outcome p w c n) c result slice (gives count) now work worked
+      pub met_whole : length result ≡ 2 * n → count ≤ room → OutcomeMet (outcome p w c n) c result slice (gives count) now work worked
       unfolding refused_by work_short full after pick WorkKept
       met_whole e h =
           let f : n ≤ c = omega arith in
           let all : take (2 * room) result ≡ result = take_all (2 * room) result (omega arith) in
-          rw (passed, le-ltb w (length p.lengths) enough, le-ltb c n f, ← count_is) (refl, written ∙ ap (λ (xs : List B). over xs slice) all, tt)
+          rw (passed, le-ltb w (length p.lengths) enough, le-ltb c n f, ← count_is) (record { answer = refl; written = written ∙ ap (λ (xs : List B). over xs slice) all; kept = tt })

@@ -2,7 +2,7 @@
 use Rattle.std.specs.Prelude.{◌≡◌, refl, List, [], ◌∷◌, ◌++◌, ℕ, zero, suc, ◌+◌, ◌*◌, ◌<◌, Float, length, get_or, take, set}
 use Rattle.std.proofs.Common.{sym, ap, ap₂, ◌∙◌, append_assoc, add-one, arith, length-append, length-take, take-suc}
 use Rattle.rules.specs.HandedOver.{at, over}
-use Rattle.rules.specs.RetraceAndMarks.{coordinates}
+use Rattle.rules.specs.Marks.{coordinates}
 use Rattle.slices.specs.Over.{over_snoc}
 
 -- f's and g's value for each

@@ -19,20 +19,24 @@ product_at_most a b = elim (cases_lt a b) [ inl h ↦ up a b (le_of_lt h) | inr 
     up : (a b : ℕ) → a ≤ b → 4 * (a * b) ≤ (a + b) * (a + b)
     up a b h = let e : a + (b - a) ≡ b = omega arith in subst (λ (x : ℕ). 4 * (a * x) ≤ (a + x) * (a + x)) e (at a (b - a))
 
+-- an inverse of a number that is not small is not large
+pub inverse_fits : {a h : ℕ} → 2 ^ 23 ≤ a → a * h ≤ 2 ^ 45 → h ≤ 2 ^ 22
+inverse_fits {a} {h} l m = let p : 2 ^ 23 * h ≤ a * h = mul-le-mul_right h l in omega (arith, m)
+
 root_at_most : (a b : ℕ) → a * a ≤ b * b → a ≤ b
 root_at_most a b h = le_of_suc-le-suc (sq_lt_back a (suc b) (omega arith))
 
 -- in units of 2^16 the root of n lies around m
-pub record Begins (n m : ℕ) : Type 0 where
+pub record AroundRoot (n m : ℕ) : Type 0 where
   pub low : (m - 16) * (m - 16) * 2 ^ 32 ≤ n
   pub high : n < (m + 17) * (m + 17) * 2 ^ 32
   pub least : 16400 ≤ m
   pub most : m < 32784
 
-pub begins : {n e : ℕ} → 2 ^ 60 ≤ n → n < 2 ^ 62 → IsFirstRoot (n / 2 ^ 52) e → Begins n (e + 16)
-begins {n} {e} L H f = go (n / 2 ^ 52) f (omega arith) (omega arith) (omega arith) (omega arith)
+pub around_root : {n e : ℕ} → 2 ^ 60 ≤ n → n < 2 ^ 62 → IsFirstRoot (n / 2 ^ 52) e → AroundRoot n (e + 16)
+around_root {n} {e} L H f = go (n / 2 ^ 52) f (omega arith) (omega arith) (omega arith) (omega arith)
   where
-    go : (k : ℕ) → IsFirstRoot k e → 256 ≤ k → k < 1024 → k * 2 ^ 52 ≤ n → n < (k + 1) * 2 ^ 52 → Begins n (e + 16)
+    go : (k : ℕ) → IsFirstRoot k e → 256 ≤ k → k < 1024 → k * 2 ^ 52 ≤ n → n < (k + 1) * 2 ^ 52 → AroundRoot n (e + 16)
     go k h l u a b =
         let g : 16384 < e + 1 = sq_lt_back 16384 (e + 1) (omega (arith, h.next)) in
         let s : e < 32768 = sq_lt_back e 32768 (omega (arith, h.square)) in
@@ -44,6 +48,10 @@ begins {n} {e} L H f = go (n / 2 ^ 52) f (omega arith) (omega arith) (omega arit
           most = omega arith;
         }
 
+-- the number of m, a number near the root of n, and of c, the reciprocal of m
+abbrev pub above_root : ℕ → ℕ → ℕ → ℕ
+above_root n m c = 256 * m + n / 2 ^ 30 * c / 2 ^ 32 + 3
+
 -- y is near 512 m
 pub record Close (m y : ℕ) : Type 0 where
   pub begin : 16400 ≤ m
@@ -52,7 +60,7 @@ pub record Close (m y : ℕ) : Type 0 where
   pub most : y ≤ 512 * m + 8712
 
 -- c is the reciprocal of m; 512 m and y are in units of 2^7
-module _ {n m c : ℕ} (N : n < 2 ^ 62) (B : Begins n m) (R : IsReciprocal m c) where
+module _ {n m c : ℕ} (N : n < 2 ^ 62) (B : AroundRoot n m) (R : IsReciprocal m c) where
   abbrev p : ℕ
   p = n / 2 ^ 30
 
@@ -72,8 +80,8 @@ module _ {n m c : ℕ} (N : n < 2 ^ 62) (B : Begins n m) (R : IsReciprocal m c) 
       let d : p * m ≤ 2 ^ 32 * m = mul-le-mul_right m (omega arith) in
       omega (arith, B.least)
 
-  abbrev pub y : ℕ
-  y = 256 * m + q + 3
+  abbrev y : ℕ
+  y = above_root n m c
 
   pub root_upper : n < y * y * 2 ^ 14
   root_upper = let a = product_at_most (256 * m) (q + 3) in omega (arith, quotient_least)

@@ -2,8 +2,8 @@
 use Rattle.std.specs.Prelude.{ℕ, ◌+◌, ◌-◌, ◌*◌, ◌/◌, ◌^◌, ◌≤◌, ◌<◌}
 use Rattle.std.proofs.Common.{le_of_lt, lt_of_not-le, lt_irrefl, mul-le-mul, mul-le-mul_right, arith}
 use Rattle.first_roots.specs.FirstRoots.{IsFirstRoot, IsReciprocal}
-use Rattle.square_root.specs.Above.{Begins, Close, begins, close, root_upper, root_lower}
-use Rattle.square_root.specs.Inverse.{product_most, inverse_most, inverse_least}
+use Rattle.square_root.specs.Above.{AroundRoot, Close, above_root, around_root, close, root_upper, root_lower}
+use Rattle.square_root.specs.Inverse.{rest_of, product_most, inverse_most, inverse_least}
 
 -- in units of 2^7 `above` is more than the root of n, and 8 less is at most the root; `inverse` is at most 2^45 / above, and little below it
 pub record Estimates (n above inverse : ℕ) : Type 0 where
@@ -18,13 +18,13 @@ pub record Estimates (n above inverse : ℕ) : Type 0 where
 
 module _ {n e c : ℕ} (L : 2 ^ 60 ≤ n) (H : n < 2 ^ 62) (F : IsFirstRoot (n / 2 ^ 52) e) (R : IsReciprocal (e + 16) c) where
   abbrev above : ℕ
-  above = 256 * (e + 16) + n / 2 ^ 30 * c / 2 ^ 32 + 3
+  above = above_root n (e + 16) c
 
   abbrev rest : ℕ
-  rest = (2 ^ 48 - above * c) / 2 ^ 16
+  rest = rest_of above c
 
-  around : Begins n (e + 16)
-  around = begins L H F
+  around : AroundRoot n (e + 16)
+  around = around_root L H F
 
   reciprocal_fits : c < 2 ^ 24
   reciprocal_fits = lt_of_not-le not

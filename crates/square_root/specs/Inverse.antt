@@ -3,11 +3,15 @@ use Rattle.std.specs.Prelude.{◌≡◌, ℕ, ◌+◌, ◌-◌, ◌*◌, ◌/◌
 use Rattle.std.proofs.Common.{ap, subst, inl, inr, le_of_lt, lt_irrefl, mul-le-mul, mul-le-mul_right, mul-le-mul_left, arith}
 use Rattle.std.proofs.lemmas.Bool.{cases_lt}
 use Rattle.first_roots.specs.FirstRoots.{IsReciprocal}
-use Rattle.square_root.specs.Above.{Close, product_at_most, unless}
+use Rattle.square_root.specs.Above.{Close, product_at_most, inverse_fits, unless}
 
 -- how far y × c may be from 2^47, y × c / 2^47 being about 1
 abbrev spread : ℕ
 spread = 147000000000
+
+-- what twice 2^47 has over y × c, in units of 2^16
+abbrev pub rest_of : ℕ → ℕ → ℕ
+rest_of y c = (2 ^ 48 - y * c) / 2 ^ 16
 
 module _ {m c y : ℕ} (K : Close m y) (R : IsReciprocal m c) where
   pub product_most : y * c ≤ 2 ^ 47 + spread
@@ -48,7 +52,7 @@ module _ {m c y : ℕ} (K : Close m y) (R : IsReciprocal m c) where
           omega arith
 
   abbrev r : ℕ
-  r = (2 ^ 48 - y * c) / 2 ^ 16
+  r = rest_of y c
 
   abbrev h : ℕ
   h = c * r / 2 ^ 33
@@ -60,12 +64,9 @@ module _ {m c y : ℕ} (K : Close m y) (R : IsReciprocal m c) where
       let d : 4 * (y * c * (2 ^ 48 - y * c)) ≤ 2 ^ 48 * 2 ^ 48 = subst (λ (x : ℕ). 4 * (y * c * (2 ^ 48 - y * c)) ≤ x * x) both (product_at_most (y * c) (2 ^ 48 - y * c)) in
       omega arith
 
-  inverse_fits : h ≤ 2 ^ 22
-  inverse_fits = let a : 2 ^ 23 * h ≤ y * h = mul-le-mul_right h (omega (arith, K.least, K.begin)) in omega (arith, inverse_most)
-
   pub inverse_least : 2 ^ 45 ≤ (y - 8) * h + 2 ^ 27
   inverse_least =
       let a : y * (c * r) ≤ y * ((h + 1) * 2 ^ 33) = mul-le-mul_left y (omega arith) in
       let b : y * c * (2 ^ 48 - y * c) ≤ y * c * ((r + 1) * 2 ^ 16) = mul-le-mul_left (y * c) (omega arith) in
       let d : (y - 8 + 8) * h ≡ y * h = ap (λ (x : ℕ). x * h) (omega (arith, K.least, K.begin)) in
-      omega (arith, product_of_both, product_most, inverse_fits, K.end, K.most)
+      omega (arith, product_of_both, product_most, inverse_fits {a = y} {h = h} (omega (arith, K.least, K.begin)) inverse_most, K.end, K.most)

@@ -1,6 +1,6 @@
 pub mod Above
 pub mod Inverse
 pub mod Estimate
-pub mod Refined
-pub mod Packed
+pub mod NewtonStep
+pub mod PackedRoot
 pub mod Steps

@@ -5,8 +5,8 @@ use Rattle.rules.specs.Tools.{foldl}
 use Rattle.rules.specs.HandedOver.{Plate, Contour, contours_of, contours}
 use Rattle.rules.specs.Start.{Oriented, ends, layer_of, beats, measured_from, start}
 use Rattle.rules.specs.declared.Point.{Point}
-use Rattle.path.specs.Layers.{leads_in}
-use Rattle.path.proofs.Layers.{foremost_is}
+use Rattle.plate_laws.specs.Layers.{leads_in}
+use Rattle.plate_laws.proofs.Layers.{foremost_is}
 use Rattle.rules.specs.declared.StartPointStrategy.{StartPointStrategy}
 
 -- the lead after the ends of a list of contours

@@ -1,3 +1,2 @@
-pub mod Oriented
-pub mod Left
+pub mod OrientedContours
 pub mod Agrees

@@ -8,31 +8,21 @@ ghost use Rattle.rules.specs.HandedOver.{Plate, plate_of, at, answer_of};
 ghost use Rattle.rules.specs.Distances.{distance_squared};
 ghost use Rattle.rules.specs.Start as Start;
 ghost use Rattle.rules.specs.Calls.{start_call};
-ghost use Rattle.path.specs.Layers.{beats_in, taking, leads_in};
-ghost use Rattle.start.specs.Oriented.{contour_of, oriented_of, lead_of, LeadIn};
+ghost use Rattle.plate_laws.specs.Layers.{beats_in, taking, leads_in};
+ghost use Rattle.contours.specs.ContourOf.{InRange, InSlice, contour_of};
+ghost use Rattle.start.specs.OrientedContours.{oriented_of, lead_of, LeadIn};
 
-pub mod contours;
-
-use crate::contours::Contours;
+use contours::{ContourRange, Contours, first_end};
 use plate::check;
 use plate::checked_input::CheckedInput;
 use point::distance_squared;
 use rules::{HIGHEST_LAYER, Input, Point, Refusal, StartPointStrategy, Vertex, point_at};
 use std::cmp::Ordering;
 
-// A contour that is not empty: its number, its first vertex, and its last, counted from 0 within it. That its last vertex is below 65536 is no ghost field:
-// `prepare::waiting_contour` and `packed_contours::contour_at` make contours of words of which nothing is promised, and would have to ask it.
-#[derive(Clone, Copy)]
-pub struct Contour {
-    pub number: u32,
-    pub first: Vertex,
-    pub last: u32,
-}
-
 // A contour in one of its two senses, and the squared distance to the end that then comes first.
 #[derive(Clone, Copy)]
-pub struct Oriented {
-    pub contour: Contour,
+pub struct OrientedContour {
+    pub contour: ContourRange,
     pub reversed: bool,
     pub squared: f64,
 }
@@ -57,27 +47,18 @@ fn measured_from(width: u32, height: u32, strategy: StartPointStrategy) -> Point
     }
 }
 
-// The vertex at which a contour in a sense begins.
-#[tactic(auto, unfolding(rules::specs::Tools::pick))]
-pub fn first_end(c: Contour, reversed: bool) -> Vertex
-    requires { c.first.0 + c.last < 65536 }
-    ensures { result.0 ≡ c.first.0 + pick reversed c.last 0 }
-{
-    if reversed {
-        return Vertex(c.first.0 + c.last);
-    }
-    c.first
-}
-
 // A contour in a sense, seen from q.
-pub fn orient(points: &[f64], q: Point, reversed: bool, c: Contour) -> Oriented
-    requires { (c.first.0 + c.last < 65536) × (2 * (c.first.0 + c.last) + 1 < length points.now) }
-    ensures { (result.contour ≡ c) × (result.reversed ≡ reversed) × (result.squared ≡ distance_squared q (at points.now (c.first.0 + pick reversed c.last 0))) }
+pub fn orient(points: &[f64], q: Point, reversed: bool, c: ContourRange) -> OrientedContour
+    requires within { InRange c }
+    requires held { InSlice points.now c }
+    ensures contour { result.contour ≡ c }
+    ensures sense { result.reversed ≡ reversed }
+    ensures squared { result.squared ≡ distance_squared q (at points.now (c.first.0 + pick reversed c.last 0)) }
 {
     let v = first_end(c, reversed);
     let end = point_at(points, v);
     let squared = distance_squared(q, end);
-    Oriented {
+    OrientedContour {
         contour: c,
         reversed,
         squared,
@@ -85,8 +66,8 @@ pub fn orient(points: &[f64], q: Point, reversed: bool, c: Contour) -> Oriented
 }
 
 // C hands over the strategy as a value here too.
-#[tactic(auto, unfolding(rules::specs::Start::beats, crate::specs::Oriented::oriented_of))]
-fn beats(strategy: StartPointStrategy, new: Oriented, best: Oriented) -> bool
+#[tactic(auto, unfolding(rules::specs::Start::beats, crate::specs::OrientedContours::oriented_of))]
+fn beats(strategy: StartPointStrategy, new: OrientedContour, best: OrientedContour) -> bool
     ensures { result ≡ Start.beats strategy (oriented_of new) (oriented_of best) }
 {
     match strategy {
@@ -96,9 +77,15 @@ fn beats(strategy: StartPointStrategy, new: Oriented, best: Oriented) -> bool
 }
 
 // Whether one takes the lead: a lower layer does, a higher one does not.
-#[tactic(auto, using(crate::specs::Agrees::layer_is, path::proofs::Layers::beats_lower, path::proofs::Layers::beats_higher, path::proofs::Layers::beats_alike))]
-fn takes_lead(layers: &[u32], strategy: StartPointStrategy, new: Oriented, best: Oriented) -> bool
-    requires { (new.contour.number < length layers.now) × (best.contour.number < length layers.now) }
+#[tactic(auto, using(crate::specs::Agrees::layer_is, plate_laws::proofs::Layers::beats_lower, plate_laws::proofs::Layers::beats_higher, plate_laws::proofs::Layers::beats_alike))]
+fn takes_lead(
+    layers: &[u32],
+    strategy: StartPointStrategy,
+    new: OrientedContour,
+    best: OrientedContour,
+) -> bool
+    requires new_layered { new.contour.number < length layers.now }
+    requires best_layered { best.contour.number < length layers.now }
     ensures { (p : Plate) → p.layers ≡ layers.now →
         result ≡ beats_in (Start.layer_of p) (Start.beats strategy) (oriented_of new) (oriented_of best) }
 {
@@ -112,29 +99,30 @@ fn takes_lead(layers: &[u32], strategy: StartPointStrategy, new: Oriented, best:
 }
 
 // The lead where there was none: a contour with a layer above the highest is never chosen.
-#[tactic(auto, using(crate::specs::Agrees::layer_is, path::specs::Layers::taking_low, path::specs::Layers::taking_high), unfolding(rules::specs::Tools::highest_layer, crate::specs::Oriented::lead_of))]
-fn first_lead(layers: &[u32], new: Oriented) -> Option<Oriented>
+#[tactic(auto, using(crate::specs::Agrees::layer_is, plate_laws::specs::Layers::taking_low, plate_laws::specs::Layers::taking_high), unfolding(rules::specs::Tools::highest_layer, crate::specs::OrientedContours::lead_of))]
+fn first_lead(layers: &[u32], new: OrientedContour) -> Option<OrientedContour>
     requires { new.contour.number < length layers.now }
-    ensures { (LeadIn (length layers.now) result)
-        × ((p : Plate) → p.layers ≡ layers.now → lead_of result ≡ taking (Start.layer_of p) (some (oriented_of new))) }
+    ensures led { LeadIn (length layers.now) result }
+    ensures lead { (p : Plate) → p.layers ≡ layers.now → lead_of result ≡ taking (Start.layer_of p) (some (oriented_of new)) }
 {
     let k = new.contour.number as usize;
     (layers[k] <= HIGHEST_LAYER).then_some(new)
 }
 
-// The lead after one more. `choosing` and `optimize` have a lead by layers each, and no generic function serves the three: one keeps ends, which a strategy
+// The lead after one more. `waiting` and `optimize` have a lead by layers each, and no generic function serves the three: one keeps ends, which a strategy
 // compares, one numbers into cached distances, and one places, most of which are passed over unseen.
-#[tactic(auto, unfolding(path::specs::Layers::leads_in, rules::specs::Tools::leads, crate::specs::Oriented::lead_of, rules::specs::Tools::pick))]
+#[tactic(auto, unfolding(plate_laws::specs::Layers::leads_in, rules::specs::Tools::leads, crate::specs::OrientedContours::lead_of, rules::specs::Tools::pick))]
 fn lead_after(
     layers: &[u32],
     strategy: StartPointStrategy,
-    lead: Option<Oriented>,
-    new: Oriented,
-) -> Option<Oriented>
-    requires { (new.contour.number < length layers.now) × LeadIn (length layers.now) lead }
-    ensures { (LeadIn (length layers.now) result)
-        × ((p : Plate) → p.layers ≡ layers.now →
-        lead_of result ≡ leads_in (Start.layer_of p) (Start.beats strategy) (lead_of lead) (oriented_of new)) }
+    lead: Option<OrientedContour>,
+    new: OrientedContour,
+) -> Option<OrientedContour>
+    requires layered { new.contour.number < length layers.now }
+    requires led { LeadIn (length layers.now) lead }
+    ensures led { LeadIn (length layers.now) result }
+    ensures lead { (p : Plate) → p.layers ≡ layers.now →
+        lead_of result ≡ leads_in (Start.layer_of p) (Start.beats strategy) (lead_of lead) (oriented_of new) }
 {
     let Some(best) = lead else {
         return first_lead(layers, new);
@@ -147,9 +135,14 @@ fn lead_after(
 
 // The lead after a contour: its first point before its last.
 #[tactic(auto, using(crate::specs::Agrees::oriented_is), unfolding(rules::specs::HandedOver::plate, rules::specs::Start::ends))]
-fn try_contour(input: &Input<'_>, q: Point, lead: Option<Oriented>, c: Contour) -> Option<Oriented>
-    requires within { c.first.0 + c.last < 65536 }
-    requires held { 2 * (c.first.0 + c.last) + 1 < length input.now.points.now }
+fn try_contour(
+    input: &Input<'_>,
+    q: Point,
+    lead: Option<OrientedContour>,
+    c: ContourRange,
+) -> Option<OrientedContour>
+    requires within { InRange c }
+    requires held { InSlice input.now.points.now c }
     requires layered { c.number < length input.now.layers.now }
     requires led { LeadIn (length input.now.layers.now) lead }
     ensures led { LeadIn (length input.now.layers.now) result }
@@ -163,8 +156,8 @@ fn try_contour(input: &Input<'_>, q: Point, lead: Option<Oriented>, c: Contour) 
 }
 
 // The end that leads the path, or nothing where no contour has a point.
-#[tactic(auto, using(crate::proofs::Ends::led_start, crate::specs::Left::all_within), unfolding(rules::specs::HandedOver::plate, rules::specs::Start::ends, crate::specs::Oriented::lead_of, crate::specs::Oriented::contour_of))]
-pub fn choose_start_contour(checked: &CheckedInput<'_>) -> Option<Oriented>
+#[tactic(auto, using(crate::proofs::Ends::led_start, contours::specs::ContoursLeft::all_within), unfolding(rules::specs::HandedOver::plate, rules::specs::Start::ends, crate::specs::OrientedContours::lead_of, contours::specs::ContourOf::contour_of))]
+pub fn choose_start_contour(checked: &CheckedInput<'_>) -> Option<OrientedContour>
     ensures { lead_of result ≡ Start.start (plate_of checked.now.input) }
 {
     let input = checked.input;

@@ -2,7 +2,7 @@
 use Rattle.std.proofs.Common.{inl, inr, arith}
 use Rattle.std.specs.Prelude.{refl, List, [], ◌∷◌, ℕ}
 use Rattle.rules.specs.HandedOver.{Plate, plate, Contour, contours_from, contours, layer_at}
-use Rattle.rules.specs.RetraceAndMarks.{kind_at, reference_at}
+use Rattle.rules.specs.Marks.{kind_at, reference_at}
 use Rattle.statement.specs.PathStatement.{NeverFall}
 use Rattle.rules.specs.declared.StartPointStrategy.TheVariants.{Inside}
 

@@ -9,9 +9,10 @@ use Rattle.rules.specs.Tools.{pick}
 use Rattle.rules.specs.HandedOver.{AllF64, Plate, at, Answer, gives, refuses, refused_by, plate_rows}
 use Rattle.rules.specs.Distances.{distance_squared}
 use Rattle.rules.specs.Box.{box}
-use Rattle.rules.specs.RetraceAndMarks.{retrace, coordinates, marks, kind_at}
-use Rattle.rules.specs.Calls.{vertices, retrace_call}
-use Rattle.statement.specs.PathStatement.{IsJumpOrTouch}
+use Rattle.rules.specs.Retrace.{retrace}
+use Rattle.rules.specs.Marks.{coordinates, marks, kind_at, vertices}
+use Rattle.rules.specs.Calls.{retrace_call}
+use Rattle.statement.specs.Division.{IsJumpOrTouch}
 use Rattle.rules.specs.declared.Totals.{Totals}
 
 -- x is at most y, but for one part in 1,073,741,824

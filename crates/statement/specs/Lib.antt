@@ -1,3 +1,4 @@
+pub mod Division
 pub mod PathStatement
 pub mod HowNear
 pub mod Quotation

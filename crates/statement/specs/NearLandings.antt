@@ -9,23 +9,18 @@ use Rattle.std.proofs.Common.{inl, inr, arith, ltb→lt, lit≤}
 use Rattle.std.specs.Float.{nan, inf, fin}
 use Rattle.std.specs.Float.Ieee.{round, fits, neg, add, sub, mul, div, rem, lt, le, eq, of_int, to_unsigned}
 use Rattle.rules.specs.Tools.{pick, sum, without, having, least, leads, winner, highest_layer, lowest, foremost, lesser, greater}
-use Rattle.rules.specs.HandedOver.{AllF64, Plate, plate, at, contours_from, contours, vertex_at, layer_at, Answer, gives, refuses, retrace_room}
-use Rattle.rules.specs.HandedOver.{first_off, first_bad, in_range, plate_limit, refused_by, too_many_contours, too_many_points, miscounted, bad_layer_count, bad_layer, out_of_range, off_the_plate}
+use Rattle.rules.specs.HandedOver.{AllF64, Plate, plate, at, contours_from, contours, vertex_at, layer_at, Answer, gives, refuses, retrace_room, first_off, first_bad, in_range, plate_limit, refused_by, too_many_contours, too_many_points, miscounted, bad_layer_count, bad_layer, out_of_range, off_the_plate}
 use Rattle.rules.specs.HandedOver.{work_short, full, parked_coordinates, input_rows, retrace_work, retrace_rows, after, over}
 use Rattle.rules.specs.Distances.{mul_add, root_by, floor_root, round_root, sqrt, distance_squared, distance}
 use Rattle.rules.specs.Start.{half, centre, measured_from, oriented, ends, layer_of, beats, start}
 use Rattle.rules.specs.Box.{widen, box_from, box}
-use Rattle.rules.specs.GridAndNearest.{cell_size, ceiling, cells_along, grid_of, index_along, cell_of, square, within, on_border}
-use Rattle.rules.specs.GridAndNearest.{seen_from, found, wins, nearer, scan_ring, bound, beyond, scan_from, nearest}
-use Rattle.rules.specs.SamplesAndCache.{sampled_after, sampled, cell_number, cell_at, sample_at, samples_from, samples, cache, cached, query_sample, seeded}
-use Rattle.rules.specs.SamplesAndCache.{met, listed, listed_row, listed_square, listed_around, cells_around, query_in, updated_in, updated}
-use Rattle.rules.specs.SamplesAndCache.{waiting, ask_path, keep, seed, update}
-use Rattle.rules.specs.RetraceAndMarks.{coincide, landing_kind, land, cut_up, cut_down, back_step, step_at, vertex_of, walk_to, walk_back, forward, backward}
-use Rattle.rules.specs.RetraceAndMarks.{return_to, both_ways, emit, entry_of, begin, path_points, closer, waiting_layer, choose, waiting_number, place_in, entered, join_all}
-use Rattle.rules.specs.RetraceAndMarks.{retrace_from, retrace_of, retrace, coordinates, marks, marks_of, count_marks, kind_at}
-use Rattle.rules.specs.Calls.{vertices, totals, path_totals, retrace_call}
-use Rattle.statement.specs.PathStatement.{IsJumpOrTouch}
-use Rattle.rules.specs.MarkedPlates.{whole, decimal, tenths, ◌∣◌, along, points_of, drawn, pairs}
+use Rattle.rules.specs.GridAndNearest.{cell_size, ceiling, cells_along, grid_of, index_along, cell_of, square, within, on_border, seen_from, found, wins, nearer, scan_ring, bound, beyond, scan_from, nearest}
+use Rattle.rules.specs.SamplesAndCache.{sampled_after, sampled, cell_number, cell_at, sample_at, samples_from, samples, cache, cached, query_sample, seeded, met, listed, listed_row, listed_square, listed_around, cells_around, query_in, updated_in, updated, waiting, ask_path, keep, seed, update}
+use Rattle.rules.specs.Retrace.{step_at, vertex_of, walk_to, walk_back, forward, backward, return_to, both_ways, emit, entry_of, begin, path_points, closer, waiting_layer, choose, waiting_number, place_in, entered, join_all, retrace_from, retrace_of, retrace}
+use Rattle.rules.specs.Marks.{coincide, landing_kind, land, cut_up, cut_down, back_step, coordinates, marks, marks_of, count_marks, kind_at, vertices}
+use Rattle.rules.specs.Calls.{totals, path_totals, retrace_call}
+use Rattle.statement.specs.Division.{IsJumpOrTouch}
+use Rattle.rules.specs.Plates.{whole, decimal, tenths, ◌∣◌, along, points_of, drawn, pairs}
 use Rattle.statement.specs.HowNear.{NearlyAtMost, LandingsNear, written_points, IsAccepted, HowNearByRules, HowNear}
 use Rattle.rules.specs.declared.Totals.{Totals}
 use Rattle.rules.specs.declared.StartPointStrategy.TheVariants.{Inside}

@@ -2,39 +2,19 @@
 -- nine cells. Then the check, as a function, with its refusals and their places. Both are of a list of contours and of points, so that a path over some of the
 -- contours can be checked too. The last part says what is to be proved: DividedByPoints, CheckDecides, CheckPlaces, RetraceAccepted, AcceptedCounts.
 -- Definitions only.
-use Rattle.std.specs.Prelude.{◌≡◌, ◌⊎◌, Bool, not, ◌&&◌, ◌||◌, List, [], ◌∷◌, ◌++◌, ℕ, zero, suc, ◌+◌, ◌*◌, ◌/◌, ◌≤◌, ◌<◌, leb, ltb, eqb, length, take, Float}
+use Rattle.std.specs.Prelude.{◌≡◌, ◌⊎◌, Bool, not, ◌&&◌, ◌||◌, List, [], ◌∷◌, ◌++◌, ℕ, zero, suc, ◌+◌, ◌*◌, ◌/◌, ◌≤◌, ◌<◌, ltb, eqb, length, take, Float}
 use Rattle.rules.specs.Tools.{sum, any, every, first_failing, up_from}
 use Rattle.rules.specs.HandedOver.{Plate, Contour, at, contours_of, contours, Answer, gives, refuses, RefusalRow, row, refused_by, work_short, contour_rows}
 use Rattle.rules.specs.Bits.{same_point}
-use Rattle.rules.specs.RetraceAndMarks.{start_kind, cut_kind, back_step_kind, jump_kind, touch_kind, landing_kind, count_marks, marks_of, kind_at, reference_at}
+use Rattle.rules.specs.Marks.{start_kind, cut_kind, back_step_kind, jump_kind, touch_kind, landing_kind, marks_of, kind_at, reference_at, cuts_of, entries_of, marks_before}
 use Rattle.rules.specs.Calls.{retrace_call}
-use Rattle.statement.specs.PathStatement.{segments_of, Among, Of, OfOne, cuts_of, PairOf, Divides}
+use Rattle.statement.specs.Division.{StartOf, PairOf, Unentered, Division}
+use Rattle.statement.specs.PathStatement.{Divides}
+use Rattle.rules.specs.Contours.{segments_of, Among, Of, is_of}
 use Rattle.rules.specs.declared.Point.{Point}
 use Rattle.rules.specs.declared.Totals.{Totals}
 
--- ---- contours entered
-
--- A start, a jump and a touch enter the contour whose vertex they name. A cut enters none.
-unfoldable pub enters : ℕ → Bool
-enters kind = eqb kind start_kind || eqb kind jump_kind || eqb kind touch_kind
-
--- vertex v is one of c's
-unfoldable pub is_of : Contour → ℕ → Bool
-is_of c v = leb c.first v && leb v (c.first + c.last)
-
--- how often c is entered
-unfoldable pub entries_of : Contour → List ℕ → ℕ
-entries_of c ms = count_marks (λ kind r. enters kind && is_of c r) ms
-
--- the marks before path point i's
-abbrev pub marks_before : ℕ → List ℕ → List ℕ
-marks_before i ms = take (2 * i) ms
-
 -- ---- the division, of the contours cs, whose points are xs
-
--- c is not entered before path point i
-abbrev pub Unentered : List ℕ → ℕ → Contour → Type 0
-Unentered ms i c = entries_of c (marks_before i ms) ≡ 0
 
 -- of a cut, path point i having the reference r: its contour is entered before, and its segment is not cut before
 abbrev pub FirstCut : List Contour → List ℕ → ℕ → ℕ → ℕ → Type 0
@@ -42,22 +22,23 @@ FirstCut cs ms i kind r =
     kind ≡ cut_kind →
     ((c : Contour) → Among c cs → Of c r → 1 ≤ entries_of c (marks_before i ms)) × (cuts_of r (marks_before i ms) ≡ 0)
 
--- Path point i keeps the rules. The first mark is a start: it names a vertex of a contour, whose point the first path point is. Any other path point makes a
--- cut, a back-step, or a jump or touch with the one before it, and so is no start.
+-- n path points and their marks divide as the path statement says, by points
+pub record DividesByPoints (cs : List Contour) (xs : List Float) (n : ℕ) (path : List Float) (ms : List ℕ) : Type 0 where
+  pub whole : length path ≡ 2 * n
+  pub division : Division cs (at path) (at xs) (at path) (Unentered ms) n ms
+  -- By points a cut may start at a vertex of another contour, so that its contour is entered before is said apart. That its segment is not cut before follows
+  -- from `once`; the check places a fault by it.
+  pub first_cuts : (k : ℕ) → suc k < n → FirstCut cs ms (suc k) (kind_at ms (suc k)) (reference_at ms (suc k))
+  pub entered : (c : Contour) → Among c cs → entries_of c ms ≡ 1
+
+-- Path point i keeps the rules: the first is a start; any other makes a cut, a back-step, or a jump or touch with the one before it, and so is no start; and a
+-- cut is its segment's first.
 unfoldable pub RulesAt : List Contour → List Float → List Float → List ℕ → ℕ → Type 0
-RulesAt cs xs path ms zero = (kind_at ms 0 ≡ start_kind) × OfOne cs (reference_at ms 0) × (at path 0 ≡ at xs (reference_at ms 0))
+RulesAt cs xs path ms zero = StartOf cs (at xs) (at path) (kind_at ms 0) (reference_at ms 0)
 RulesAt cs xs path ms (suc k) =
     let kind = kind_at ms (suc k) in
     let r = reference_at ms (suc k) in
-    PairOf cs (at path) (at xs) (at path) (Unentered ms (suc k)) k kind r × FirstCut cs ms (suc k) kind r
-
--- n path points and their marks divide as the path statement says, by points
-pub record DividesByPoints (cs : List Contour) (xs : List Float) (n : ℕ) (path : List Float) (ms : List ℕ) : Type 0 where
-  pub whole : (length path ≡ 2 * n) × (length ms ≡ 2 * n)
-  pub rules : (i : ℕ) → i < n → RulesAt cs xs path ms i
-  -- each segment of each contour is cut exactly once, and each contour is entered exactly once
-  pub once : (c : Contour) → Among c cs → (i : ℕ) → i < c.last → cuts_of (c.first + i) ms ≡ 1
-  pub entered : (c : Contour) → Among c cs → entries_of c ms ≡ 1
+    PairOf cs (at path) (at xs) (at path) (Unentered ms k) k kind r × FirstCut cs ms (suc k) kind r
 
 -- ---- the check
 

@@ -4,7 +4,7 @@
 -- only; the last two are what is to be proved.
 use Rattle.std.specs.Prelude.{◌≡◌, List, ℕ, ◌*◌, take, Float}
 use Rattle.rules.specs.HandedOver.{Plate, gives}
-use Rattle.rules.specs.RetraceAndMarks.{retrace}
+use Rattle.rules.specs.Retrace.{retrace}
 use Rattle.rules.specs.Lengths.{plate_length, is_touch, length_along}
 use Rattle.rules.specs.Calls.{totals, path_totals, retrace_call}
 use Rattle.statement.specs.HowNear.{IsAccepted}

@@ -2,7 +2,7 @@
 -- clause. A row's comment names the clause that excludes it; it keeps all others but those that the comment says it breaks too.
 -- Two parts of `pairs` are not broken alone by any path, since a path point's vertex is found from its mark: that a jump's or touch's vertex is the one that
 -- it names (`landing`), and that a back_step's is path point r's (`to`). A path that goes elsewhere breaks `coordinates`.
-use Rattle.std.specs.Prelude.{◌≡◌, refl, List, [], ◌∷◌, ℕ, suc, ◌≤◌, pos, Float}
+use Rattle.std.specs.Prelude.{◌≡◌, refl, List, [], ◌∷◌, ◌++◌, ℕ, suc, ◌≤◌, pos, Float}
 use Rattle.std.proofs.Common.{ap, inl, inr, arith}
 use Rattle.std.proofs.lemmas.Bool.{false≢true}
 use Rattle.std.specs.Float.{nan, binary64}
@@ -12,9 +12,11 @@ use Rattle.rules.specs.HandedOver.{Plate, plate, Contour, at, contours_from, con
 use Rattle.rules.specs.Distances.{mul_add, distance_squared}
 use Rattle.rules.specs.Box.{widen, box_from, box}
 use Rattle.rules.specs.GridAndNearest.{cell_size, ceiling, cells_along, grid_of, index_along, cell_of, square, within}
-use Rattle.rules.specs.RetraceAndMarks.{cut_kind, back_step_kind, jump_kind, coincide, count_marks, marks_of, kind_at, reference_at}
-use Rattle.statement.specs.PathStatement.{contour_count, segment_count, OfContour, named, vertices_after, vertex_in, cuts_of}
-use Rattle.statement.specs.PathStatement.{itself, Cut, BackStep, Landing, JumpOrTouch, NotEntered, Pair, Divides}
+use Rattle.rules.specs.Plates.{whole, along, pairs}
+use Rattle.rules.specs.Marks.{cut_kind, back_step_kind, jump_kind, coincide, count_marks, marks_of, kind_at, reference_at, named, vertices_after, vertex_in, cuts_of}
+use Rattle.rules.specs.Contours.{segments_of}
+use Rattle.statement.specs.PathStatement.{Divides}
+use Rattle.statement.specs.Division.{itself, Cut, BackStep, Landing, JumpOrTouch, PairOf, NotEntered}
 use Rattle.rules.specs.declared.Point.{Point}
 use Rattle.rules.specs.declared.Totals.{Totals}
 use Rattle.rules.specs.declared.StartPointStrategy.TheVariants.{Inside}
@@ -28,16 +30,6 @@ pub record Outcome : Type 0 where
   pub path : List Float
   pub marks : List ℕ
 
--- points (x, y), as an f64 slice has them
-points : List (ℕ × ℕ) → List Float
-points [] = []
-points (p ∷ ps) = of_int binary64 (pos p.0) ∷ of_int binary64 (pos p.1) ∷ points ps
-
--- marks (kind, reference), as a u32 slice has them
-pairs : List (ℕ × ℕ) → List ℕ
-pairs [] = []
-pairs (p ∷ ps) = p.0 ∷ p.1 ∷ pairs ps
-
 -- path points, cuts, back-steps, jumps, touches; the path statement says nothing of lengths
 counted_all : ℕ → ℕ → ℕ → ℕ → ℕ → Totals
 counted_all n s b j t = record { points = n; cuts = s; back_steps = b; jumps = j; touches = t; cut_length = 0; back_step_length = 0; jump_length = 0 }
@@ -47,11 +39,11 @@ counted : ℕ → ℕ → ℕ → ℕ → Totals
 counted n s b j = counted_all n s b j 0
 
 outcome : Plate → Totals → List (ℕ × ℕ) → List (ℕ × ℕ) → Outcome
-outcome p c path ms = record { plate = p; counts = c; path = points path; marks = pairs ms }
+outcome p c path ms = record { plate = p; counts = c; path = along whole path; marks = pairs ms }
 
 -- (0,0)(25,0)(50,0) | (0,1): plate E, but with cells of size 1. Vertices 0 to 2 are the first contour's, and vertex 3 is the second's; S is 2, n is 2.
 wide : Plate
-wide = plate (points ((0, 0) ∷ (25, 0) ∷ (50, 0) ∷ (0, 1) ∷ [])) (3 ∷ 1 ∷ []) (0 ∷ 0 ∷ []) 0 0 Inside
+wide = plate (along whole ((0, 0) ∷ (25, 0) ∷ (50, 0) ∷ (0, 1) ∷ [])) (3 ∷ 1 ∷ []) (0 ∷ 0 ∷ []) 0 0 Inside
 
 -- the path that the rules give, and its marks: 6 points, 2 cuts, 2 back-steps, 1 jump
 rules_path : List (ℕ × ℕ)
@@ -62,27 +54,27 @@ rules_marks = (0, 0) ∷ (1, 0) ∷ (1, 1) ∷ (2, 1) ∷ (2, 0) ∷ (3, 3) ∷ 
 
 -- one point
 single : Plate
-single = plate (points ((0, 0) ∷ [])) (1 ∷ []) (0 ∷ []) 0 0 Inside
+single = plate (along whole ((0, 0) ∷ [])) (1 ∷ []) (0 ∷ []) 0 0 Inside
 
 -- (0,0) | (0,0)
 twice : Plate
-twice = plate (points ((0, 0) ∷ (0, 0) ∷ [])) (1 ∷ 1 ∷ []) (0 ∷ 0 ∷ []) 0 0 Inside
+twice = plate (along whole ((0, 0) ∷ (0, 0) ∷ [])) (1 ∷ 1 ∷ []) (0 ∷ 0 ∷ []) 0 0 Inside
 
 -- (0,0)(25,0)(0,0) | (0,1)
 closed : Plate
-closed = plate (points ((0, 0) ∷ (25, 0) ∷ (0, 0) ∷ (0, 1) ∷ [])) (3 ∷ 1 ∷ []) (0 ∷ 0 ∷ []) 0 0 Inside
+closed = plate (along whole ((0, 0) ∷ (25, 0) ∷ (0, 0) ∷ (0, 1) ∷ [])) (3 ∷ 1 ∷ []) (0 ∷ 0 ∷ []) 0 0 Inside
 
 -- (0,0)(25,0)(50,0) | (0,3) in a box of 500 by 0: its cells have the size 10, those over the points alone would have the size 1
 boxed : Plate
 boxed =
     record {
-      points = points ((0, 0) ∷ (25, 0) ∷ (50, 0) ∷ (0, 3) ∷ []);
+      points = along whole ((0, 0) ∷ (25, 0) ∷ (50, 0) ∷ (0, 3) ∷ []);
       lengths = 3 ∷ 1 ∷ [];
       layers = 0 ∷ 0 ∷ [];
       width = 0;
       height = 0;
       strategy = Inside;
-      box = box (points ((0, 0) ∷ (500, 0) ∷ []));
+      box = box (along whole ((0, 0) ∷ (500, 0) ∷ []));
     }
 
 -- ---- the table
@@ -103,7 +95,7 @@ lands_elsewhere = outcome wide (counted 6 2 2 1) ((0, 0) ∷ (25, 0) ∷ (50, 0)
 pub starts_unmarked : Outcome
 starts_unmarked = outcome wide (counted 6 2 2 1) rules_path ((5, 0) ∷ (1, 0) ∷ (1, 1) ∷ (2, 1) ∷ (2, 0) ∷ (3, 3) ∷ [])
 
--- `start`: the first mark is a touch. Breaks `kinds` too.
+-- `start`: the first mark is a touch. Breaks `kinds` and `jumps` too.
 pub starts_with_a_touch : Outcome
 starts_with_a_touch = outcome wide (counted 6 2 2 1) rules_path ((4, 0) ∷ (1, 0) ∷ (1, 1) ∷ (2, 1) ∷ (2, 0) ∷ (3, 3) ∷ [])
 
@@ -146,14 +138,14 @@ enters_again =
     ((0, 0) ∷ (50, 0) ∷ (25, 0) ∷ (0, 0) ∷ [])
     ((0, 0) ∷ (3, 2) ∷ (1, 1) ∷ (1, 0) ∷ [])
 
--- `pairs`, `NoneNearer`: straight joining with honest marks. The jump leaves (50,0), but (0,0) is in a cell next to that of (0,1), and nearer.
+-- `nine_cells`: straight joining with honest marks. The jump leaves (50,0), but (0,0) is in a cell next to that of (0,1), and nearer.
 pub joins_straight : Outcome
 joins_straight =
     outcome wide (counted 4 2 0 1)
     ((0, 0) ∷ (25, 0) ∷ (50, 0) ∷ (0, 1) ∷ [])
     ((0, 0) ∷ (1, 0) ∷ (1, 1) ∷ (3, 3) ∷ [])
 
--- `NoneNearer` is of the plate's box: (0,0) is in the cell of (0,3), and three cells off in a grid over the points alone
+-- `nine_cells` is of the plate's box: (0,0) is in the cell of (0,3), and three cells off in a grid over the points alone
 pub joins_straight_in_its_box : Outcome
 joins_straight_in_its_box =
     outcome boxed (counted 4 2 0 1)
@@ -175,22 +167,22 @@ touches_again =
     ((0, 0) ∷ (0, 0) ∷ (25, 0) ∷ (0, 0) ∷ [])
     ((0, 0) ∷ (4, 2) ∷ (1, 1) ∷ (1, 0) ∷ [])
 
--- `pairs`, `NoneNearer` of a touch: straight joining, its jump marked as a touch. Breaks the touch's points too: where they are equal, none is nearer.
+-- `nine_cells` of a touch: straight joining, its jump marked as a touch. Breaks the touch's points too: where they are equal, none is nearer.
 pub touches_farther : Outcome
 touches_farther =
     outcome wide (counted_all 4 2 0 0 1)
     ((0, 0) ∷ (25, 0) ∷ (50, 0) ∷ (0, 1) ∷ [])
     ((0, 0) ∷ (1, 0) ∷ (1, 1) ∷ (4, 3) ∷ [])
 
--- `pairs`: a pair that is no cut, no back_step, no jump and no touch: the jump's mark is of no known kind. Breaks `kinds` too.
+-- `pairs`: a pair that is no cut, no back_step, no jump and no touch: the jump's mark is of no known kind. Breaks `jumps` too.
 pub marks_unknown : Outcome
-marks_unknown = outcome wide (counted 6 2 2 1) rules_path ((0, 0) ∷ (1, 0) ∷ (1, 1) ∷ (2, 1) ∷ (2, 0) ∷ (5, 3) ∷ [])
+marks_unknown = outcome wide (counted 6 2 2 0) rules_path ((0, 0) ∷ (1, 0) ∷ (1, 1) ∷ (2, 1) ∷ (2, 0) ∷ (5, 3) ∷ [])
 
 -- the same of a touch
 pub touches_unknown : Outcome
-touches_unknown = outcome twice (counted_all 2 0 0 0 1) ((0, 0) ∷ (0, 0) ∷ []) ((0, 0) ∷ (5, 1) ∷ [])
+touches_unknown = outcome twice (counted 2 0 0 0) ((0, 0) ∷ (0, 0) ∷ []) ((0, 0) ∷ (5, 1) ∷ [])
 
--- `kinds`: B is made up. Breaks `all` too.
+-- `kinds`: B is made up
 pub makes_up_b : Outcome
 makes_up_b = outcome wide (counted 6 2 1 1) rules_path rules_marks
 
@@ -201,9 +193,26 @@ counts_as_touch = outcome wide (counted_all 6 2 2 0 1) rules_path rules_marks
 pub counts_as_jump : Outcome
 counts_as_jump = outcome twice (counted 2 0 0 1) ((0, 0) ∷ (0, 0) ∷ []) ((0, 0) ∷ (4, 1) ∷ [])
 
--- `cuts`: S is made up. Breaks `kinds` too.
+-- `kinds`: S is made up
 pub makes_up_s : Outcome
 makes_up_s = outcome wide (counted 6 3 2 1) rules_path rules_marks
+
+-- `cuts`: segment 1 is left out. Breaks `all` and `once` too.
+pub leaves_a_segment : Outcome
+leaves_a_segment =
+    outcome wide (counted 4 1 1 1)
+    ((0, 0) ∷ (25, 0) ∷ (0, 0) ∷ (0, 1) ∷ [])
+    ((0, 0) ∷ (1, 0) ∷ (2, 0) ∷ (3, 3) ∷ [])
+
+-- `pairs`, a jump's `fresh`: a vertex of no contour, which has no coordinates
+pub jumps_beyond : Outcome
+jumps_beyond =
+    record {
+      plate = wide;
+      counts = counted 6 2 2 1;
+      path = along whole ((0, 0) ∷ (25, 0) ∷ (50, 0) ∷ (25, 0) ∷ (0, 0) ∷ []) ++ (nan ∷ nan ∷ []);
+      marks = pairs ((0, 0) ∷ (1, 0) ∷ (1, 1) ∷ (2, 1) ∷ (2, 0) ∷ (3, 4) ∷ []);
+    }
 
 -- `jumps`: the second contour is left out. Breaks `all` too.
 pub leaves_a_contour : Outcome
@@ -236,23 +245,26 @@ module _ (p : Plate) (v : ℕ → ℕ) (k r : ℕ) where
   abbrev place : ℕ → Point
   place i = at p.points (v i)
 
-  cut : Pair p v k cut_kind r → Cut (contours p) itself v k r
-  cut (inl c, n) = c.1
-  cut (inr (inl b), n) = absurd (omega (arith, b.0))
-  cut (inr (inr (inl j, l)), n) = absurd (omega (arith, j.0))
-  cut (inr (inr (inr t, l)), n) = absurd (omega (arith, t.0))
+  abbrev Pair : ℕ → Type 0
+  Pair kind = PairOf (contours p) place itself v (NotEntered v k) k kind r
 
-  back_step : Pair p v k back_step_kind r → BackStep v k r
-  back_step (inl c, n) = absurd (omega (arith, c.0))
-  back_step (inr (inl b), n) = b.1
-  back_step (inr (inr (inl j, l)), n) = absurd (omega (arith, j.0))
-  back_step (inr (inr (inr t, l)), n) = absurd (omega (arith, t.0))
+  cut : Pair cut_kind → Cut (contours p) itself v k r
+  cut (inl c) = c.1
+  cut (inr (inl b)) = absurd (omega (arith, b.0))
+  cut (inr (inr (inl j, l))) = absurd (omega (arith, j.0))
+  cut (inr (inr (inr t, l))) = absurd (omega (arith, t.0))
+
+  back_step : Pair back_step_kind → BackStep v k r
+  back_step (inl c) = absurd (omega (arith, c.0))
+  back_step (inr (inl b)) = b.1
+  back_step (inr (inr (inl j, l))) = absurd (omega (arith, j.0))
+  back_step (inr (inr (inr t, l))) = absurd (omega (arith, t.0))
 
   -- a jump or a touch
-  land : {kind : ℕ} → jump_kind ≤ kind → Pair p v k kind r → JumpOrTouch (place k) (place (suc k)) kind × Landing (contours p) itself v (NotEntered v k) k r
-  land m (inl c, n) = absurd (omega (arith, c.0))
-  land m (inr (inl b), n) = absurd (omega (arith, b.0))
-  land m (inr (inr l), n) = l
+  land : {kind : ℕ} → jump_kind ≤ kind → Pair kind → JumpOrTouch (place k) (place (suc k)) kind × Landing (contours p) itself v (NotEntered v k) k r
+  land m (inl c) = absurd (omega (arith, c.0))
+  land m (inr (inl b)) = absurd (omega (arith, b.0))
+  land m (inr (inr l)) = l
 
 first_of : {c d : Contour} → c ≡ d → c.first ≡ d.first
 first_of e = ap (λ (x : Contour). x.first) e
@@ -284,65 +296,67 @@ pub none_divides :
     × Undivided counts_as_touch
     × Undivided counts_as_jump
     × Undivided makes_up_s
+    × Undivided leaves_a_segment
+    × Undivided jumps_beyond
     × Undivided leaves_a_contour
     × Undivided goes_on
     × Undivided cuts_twice
 unfolding
-    points pairs counted_all counted outcome wide rules_path rules_marks single twice closed boxed
+    whole along pairs counted_all counted outcome wide rules_path rules_marks single twice closed boxed
     longer_path longer_marks lands_elsewhere starts_unmarked starts_with_a_touch starts_beyond cuts_between cuts_another reverses_itself steps_twice enters_again joins_straight joins_straight_in_its_box
-    touches_apart jumps_in_place touches_again touches_farther marks_unknown touches_unknown makes_up_b counts_as_touch counts_as_jump makes_up_s leaves_a_contour goes_on cuts_twice
+    touches_apart jumps_in_place touches_again touches_farther marks_unknown touches_unknown makes_up_b counts_as_touch counts_as_jump makes_up_s leaves_a_segment jumps_beyond leaves_a_contour goes_on cuts_twice
     -- floats
     of_int add sub mul div lt eq to_unsigned
     -- Tools, HandedOver, Distances, GridAndNearest
     pick sum lesser greater plate at contours_from contours mul_add distance_squared
     widen box_from box cell_size ceiling cells_along grid_of index_along cell_of square within
-    -- RetraceAndMarks, PathStatement
-    coincide count_marks marks_of contour_count segment_count OfContour kind_at reference_at named vertices_after vertex_in cuts_of
+    -- Marks, Contours
+    coincide count_marks marks_of segments_of kind_at reference_at named vertices_after vertex_in cuts_of
 none_divides = (
-  λ d. omega (arith, d.whole.0),
-  λ d. omega (arith, d.whole.1),
+  λ d. omega (arith, d.whole),
+  λ d. omega (arith, d.division.whole),
   λ d. false≢true (ap (λ (q : Point). lt q.y (of_int binary64 (pos 2))) (d.coordinates 5 (omega arith))),
-  λ d. omega (arith, d.start.0),
-  λ d. omega (arith, d.start.0),
+  λ d. omega (arith, (d.division.start (omega arith)).0),
+  λ d. omega (arith, (d.division.start (omega arith)).0),
   λ d.
-      let s = d.start.1 in
+      let s = (d.division.start (omega arith)).1 in
       elim s.1 [ inl e ↦ omega (arith, first_of e, last_of e, s.2.1) | inr e ↦ e ],
   λ d.
-      let s = (cut wide _ 1 2 (d.pairs 1 (omega arith))).segment in
+      let s = (cut wide _ 1 2 (d.division.pairs 1 (omega arith))).segment in
       elim s.1 [
         | inl e ↦ omega (arith, first_of e, last_of e, s.3)
         | inr (inl e) ↦ omega (arith, first_of e, s.2)
         | inr (inr e) ↦ e
       ],
-  λ d. elim (cut wide _ 0 1 (d.pairs 0 (omega arith))).sense [ inl s ↦ omega (arith, s.0) | inr s ↦ omega (arith, s.0) ],
-  λ d. omega (arith, (back_step wide _ 4 4 (d.pairs 4 (omega arith))).earlier),
-  λ d. omega (arith, (back_step wide _ 2 0 (d.pairs 2 (omega arith))).from),
+  λ d. elim (cut wide _ 0 1 (d.division.pairs 0 (omega arith))).sense [ inl s ↦ omega (arith, s.0) | inr s ↦ omega (arith, s.0) ],
+  λ d. omega (arith, (back_step wide _ 4 4 (d.division.pairs 4 (omega arith))).earlier),
+  λ d. omega (arith, (back_step wide _ 2 0 (d.division.pairs 2 (omega arith))).from),
   λ d.
-      let f = (land wide _ 0 2 (omega arith) (d.pairs 0 (omega arith))).1.fresh in
+      let f = (land wide _ 0 2 (omega arith) (d.division.pairs 0 (omega arith))).1.fresh in
       elim f.1 [
         | inl e ↦ elim (f.3 0 (omega arith)) [ inl n ↦ omega (arith, first_of e, n) | inr n ↦ omega (arith, first_of e, last_of e, n) ]
         | inr (inl e) ↦ omega (arith, first_of e, f.2.0)
         | inr (inr e) ↦ e
       ],
-  λ d. (d.pairs 2 (omega arith)).1 (inl refl) 0 (omega arith) tt,
-  λ d. (d.pairs 2 (omega arith)).1 (inl refl) 0 (omega arith) tt,
-  λ d. elim (land wide _ 4 3 (omega arith) (d.pairs 4 (omega arith))).0 [ inl j ↦ omega (arith, j.0) | inr t ↦ t.1 ],
-  λ d. elim (land twice _ 0 1 (omega arith) (d.pairs 0 (omega arith))).0 [ inl j ↦ j.1 | inr t ↦ omega (arith, t.0) ],
+  λ d. d.nine_cells 2 (omega arith) (inl refl) 0 (omega arith) tt,
+  λ d. d.nine_cells 2 (omega arith) (inl refl) 0 (omega arith) tt,
+  λ d. elim (land wide _ 4 3 (omega arith) (d.division.pairs 4 (omega arith))).0 [ inl j ↦ omega (arith, j.0) | inr t ↦ t.1 ],
+  λ d. elim (land twice _ 0 1 (omega arith) (d.division.pairs 0 (omega arith))).0 [ inl j ↦ j.1 | inr t ↦ omega (arith, t.0) ],
   λ d.
-      let f = (land closed _ 0 2 (omega arith) (d.pairs 0 (omega arith))).1.fresh in
+      let f = (land closed _ 0 2 (omega arith) (d.division.pairs 0 (omega arith))).1.fresh in
       elim f.1 [
         | inl e ↦ elim (f.3 0 (omega arith)) [ inl n ↦ omega (arith, first_of e, n) | inr n ↦ omega (arith, first_of e, last_of e, n) ]
         | inr (inl e) ↦ omega (arith, first_of e, f.2.0)
         | inr (inr e) ↦ e
       ],
-  λ d. (d.pairs 2 (omega arith)).1 (inr refl) 0 (omega arith) tt,
-  λ d. elim (d.pairs 4 (omega arith)).0 [
+  λ d. d.nine_cells 2 (omega arith) (inr refl) 0 (omega arith) tt,
+  λ d. elim (d.division.pairs 4 (omega arith)) [
     | inl c ↦ omega (arith, c.0)
     | inr (inl b) ↦ omega (arith, b.0)
     | inr (inr (inl j, l)) ↦ omega (arith, j.0)
     | inr (inr (inr t, l)) ↦ omega (arith, t.0)
   ],
-  λ d. elim (d.pairs 0 (omega arith)).0 [
+  λ d. elim (d.division.pairs 0 (omega arith)) [
     | inl c ↦ omega (arith, c.0)
     | inr (inl b) ↦ omega (arith, b.0)
     | inr (inr (inl j, l)) ↦ omega (arith, j.0)
@@ -351,8 +365,16 @@ none_divides = (
   λ d. omega (arith, d.kinds.1),
   λ d. omega (arith, d.kinds.2),
   λ d. omega (arith, d.kinds.3),
-  λ d. omega (arith, d.cuts),
-  λ d. omega (arith, d.jumps),
-  λ d. omega (arith, d.all),
-  λ d. omega (arith, d.once _ (inl refl) 1 (omega arith)),
+  λ d. omega (arith, d.kinds.0),
+  λ d. omega (arith, d.division.cuts),
+  λ d.
+      let f = (land wide _ 4 4 (omega arith) (d.division.pairs 4 (omega arith))).1.fresh in
+      elim f.1 [
+        | inl e ↦ omega (arith, first_of e, last_of e, f.2.1)
+        | inr (inl e) ↦ omega (arith, first_of e, last_of e, f.2.1)
+        | inr (inr e) ↦ e
+      ],
+  λ d. omega (arith, d.division.jumps),
+  λ d. omega (arith, d.division.all),
+  λ d. omega (arith, d.division.once _ (inl refl) 1 (omega arith)),
 )

@@ -1,3 +1,3 @@
-pub mod Running
-pub mod Drawing
-pub mod Ordered
+pub mod RunVertices
+pub mod PathSoFar
+pub mod OrderRuns

@@ -1,8 +1,9 @@
 -- The vertices of contours in their senses, by their sizes and by packed contours. Definitions only.
 use Rattle.std.specs.Prelude.{Bool, List, [], ◌∷◌, ◌++◌, ℕ, ◌+◌, ◌*◌, ◌≤◌, ◌<◌, eqb, Float, length, get_or}
 use Rattle.rules.specs.Tools.{pick, up_from, down_to}
-use Rattle.packed_contours.specs.Packed.{number_in, first_in}
-use Rattle.packed_contours.specs.Unpacked.{sense_in}
+use Rattle.rules.specs.Limits.{most_points}
+use Rattle.packed_contours.specs.PackedNumbers.{number_in, first_in}
+use Rattle.packed_contours.specs.UnpackedNumbers.{sense_in}
 
 -- the n vertices from `first` on, or from the last of them back
 unfoldable pub run : Bool → ℕ → ℕ → List ℕ
@@ -19,5 +20,5 @@ runs lengths (word ∷ words) = run_of lengths word ++ runs lengths words
 -- a packed contour whose points are the plate's
 pub record Readable (points : List Float) (lengths : List ℕ) (word : ℕ) : Type 0 where
   pub number : number_in word < length lengths
-  pub few : first_in word + get_or lengths (number_in word) 0 ≤ 65536
+  pub few : first_in word + get_or lengths (number_in word) 0 ≤ most_points
   pub inside : 2 * (first_in word + get_or lengths (number_in word) 0) ≤ length points

@@ -1,7 +1,7 @@
 -- The vertices of a run of the code. Definitions only.
 use Rattle.std.specs.Prelude.{List, ℕ}
 use Rattle.straight.specs.Runs.{run}
-use Rattle.straight.specs.declared.Run.{Run}
+use Rattle.straight.specs.declared.ContourRun.{ContourRun}
 
-abbrev pub vertices : Run → List ℕ
+abbrev pub vertices : ContourRun → List ℕ
 vertices r = run r.reversed r.first.0 r.size

@@ -2,11 +2,12 @@
 #![tactic(auto)]
 
 ghost use Rattle.std.specs.Prelude.{◌≡◌, ◌+◌, ◌*◌, ◌/◌, ◌≤◌, ◌<◌, min, length, take, get_or};
+ghost use Rattle.rules.specs.Limits.{most_points};
 ghost use Rattle.rules.specs.HandedOver.{plate_of, over, answer_of, WorkKept};
-ghost use Rattle.rules.specs.RetraceAndMarks.{coordinates};
+ghost use Rattle.rules.specs.Marks.{coordinates};
 ghost use Rattle.rules.specs.OrderAndStraight.{order, straight};
 ghost use Rattle.rules.specs.Calls.{straight_call};
-ghost use Rattle.path.specs.Lists.{All};
+ghost use Rattle.plate_laws.specs.Lists.{All};
 ghost use Rattle.straight.specs.Runs.{run, runs, Readable};
 
 use optimize::optimize_path_order;
@@ -17,18 +18,18 @@ use rules::{Input, MOST_PATH_POINTS, Refusal, Vertex, point_at};
 
 // The vertices of a contour in a sense.
 #[derive(Clone, Copy)]
-struct Run {
+struct ContourRun {
     first: Vertex,
     size: u32,
     reversed: bool,
-    ghost few: { first.0 + size ≤ 65536 },
+    ghost few: { first.0 + size ≤ most_points },
 }
 
-impl Run {
+impl ContourRun {
     ghost use Rattle.straight.specs.Vertices.{vertices};
 
     // Vertex i, counted in the contour's sense.
-    #[tactic(auto, using(crate::proofs::Running::up_at, crate::proofs::Running::down_at), unfolding(crate::specs::Runs::run, rules::specs::Tools::pick))]
+    #[tactic(auto, using(crate::proofs::RunVertices::up_at, crate::proofs::RunVertices::down_at), unfolding(crate::specs::Runs::run, rules::specs::Tools::pick))]
     fn vertex(self, i: u32) -> Vertex
         requires { i < self.size }
         ensures { result.0 ≡ get_or (vertices self) i 0 }
@@ -65,7 +66,7 @@ fn write_contours(points: &[f64], lengths: &[u32], words: &[u32], path: &mut [f6
     let mut count: usize = 0;
     for &word in words {
         let packed = Packed::from(word);
-        let run = Run {
+        let run = ContourRun {
             first: packed.first,
             size: lengths[packed.number as usize],
             reversed: packed.reversed,

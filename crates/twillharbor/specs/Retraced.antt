@@ -3,7 +3,8 @@
 use Rattle.std.specs.Prelude.{◌≡◌, List, ℕ, ◌*◌, ◌≤◌, Float, length, take}
 use Rattle.rules.specs.HandedOver.{Plate, WorkKept}
 use Rattle.rules.specs.Calls.{retrace_call}
-use Rattle.statement.specs.PathStatement.{contour_count, Divides, NeverFall}
+use Rattle.statement.specs.PathStatement.{Divides, NeverFall}
+use Rattle.rules.specs.Contours.{contour_count}
 use Rattle.statement.specs.HowNear.{LandingsNear}
 use Rattle.statement.specs.Quotation.{Quoted}
 use Rattle.contour_recovery.specs.ContourRecovery.{GivesBack}

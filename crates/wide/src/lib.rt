@@ -22,7 +22,8 @@ pub struct Shifted {
 
 pub fn square(s: u64) -> Wide
     requires { s < 2 ^ 61 }
-    ensures { (wide result.hi result.lo ≡ s * s) × (result.lo < 2 ^ 64) }
+    ensures value { wide result.hi result.lo ≡ s * s }
+    ensures low { result.lo < 2 ^ 64 }
 {
     let a = s / 4294967296;
     let b = s % 4294967296;
@@ -36,14 +37,16 @@ pub fn square(s: u64) -> Wide
 }
 
 pub fn sticky_bit(x: u64) -> u64
-    ensures { (result ≡ sticky_bit x) × (result ≤ 1) }
+    ensures bit { result ≡ sticky_bit x }
+    ensures most { result ≤ 1 }
 {
     u64::from(x != 0)
 }
 
 fn shift_right_below_64(w: Wide, d: u64) -> Shifted
     requires { d < 64 }
-    ensures { (wide result.value.hi result.value.lo ≡ wide w.hi w.lo / 2 ^ d) × (result.sticky ≡ sticky_bit (wide w.hi w.lo % 2 ^ d)) }
+    ensures value { wide result.value.hi result.value.lo ≡ wide w.hi w.lo / 2 ^ d }
+    ensures sticky { result.sticky ≡ sticky_bit (wide w.hi w.lo % 2 ^ d) }
 {
     if d == 0 {
         return Shifted {
@@ -64,7 +67,8 @@ fn shift_right_below_64(w: Wide, d: u64) -> Shifted
 }
 
 pub fn shift_right(w: Wide, d: u64) -> Shifted
-    ensures { (wide result.value.hi result.value.lo ≡ wide w.hi w.lo / 2 ^ d) × (result.sticky ≡ sticky_bit (wide w.hi w.lo % 2 ^ d)) }
+    ensures value { wide result.value.hi result.value.lo ≡ wide w.hi w.lo / 2 ^ d }
+    ensures sticky { result.sticky ≡ sticky_bit (wide w.hi w.lo % 2 ^ d) }
 {
     if d < 64 {
         return shift_right_below_64(w, d);
@@ -88,7 +92,8 @@ pub fn shift_right(w: Wide, d: u64) -> Shifted
 // A sum that stays below 2^127.
 pub fn plus(a: Wide, b: Wide) -> Wide
     requires { a.hi + b.hi < 2 ^ 63 }
-    ensures { (wide result.hi result.lo ≡ wide a.hi a.lo + wide b.hi b.lo) × (result.lo < 2 ^ 64) }
+    ensures value { wide result.hi result.lo ≡ wide a.hi a.lo + wide b.hi b.lo }
+    ensures low { result.lo < 2 ^ 64 }
 {
     let (lo, carried) = a.lo.overflowing_add(b.lo);
     Wide {

@@ -34,6 +34,7 @@ mod in_layers;
 mod measured;
 pub mod paths;
 pub mod retrace;
+mod told_apart;
 mod touching;
 
 use harness::random::Random;
@@ -81,7 +82,7 @@ impl Words {
 }
 
 /// The rows of the distance call: document 01's plates H and I, the limit and the numbers
-/// next to it, then the same number of each kind.
+/// next to it, pairs that tell rules apart, then the same number of each kind.
 pub fn distances() -> String {
     const LIMIT: f64 = pairs::LIMIT;
     let mut random = Random::new(8);
@@ -93,6 +94,16 @@ pub fn distances() -> String {
         [LIMIT, -LIMIT.next_up(), LIMIT, LIMIT],
         [LIMIT, LIMIT, LIMIT.next_up(), LIMIT],
         [LIMIT, LIMIT, LIMIT, -LIMIT.next_up()],
+        // the difference is rounded first; a root that is rounded down; a squared distance that is
+        // subnormal
+        [0.0, 1.0, 0.0, -3.0 * power(-55)],
+        [0.0, 0.0, 2.0, 3.0],
+        [0.0, 0.0, 3.0 * power(-538), 0.0],
+        // at the limit and off it
+        [LIMIT, 0.0, -LIMIT, 0.0],
+        [0.0, 0.0, LIMIT.next_up(), 0.0],
+        [f64::NEG_INFINITY, 0.0, 0.0, 0.0],
+        [0.0, 0.0, 0.0, f64::NAN],
     ];
     for (kind, _) in pairs::KINDS {
         pairs.extend((0..PAIRS).map(|_| pair(kind, &mut random)));
@@ -126,7 +137,7 @@ struct Row {
 /// The rows of the start, order and straight calls: document 01's plates A to G and others
 /// that separate one rule from another, plates that document 02's layers decide, then the same
 /// number of each kind of plate, in layers, and of damage. Then come the rows of Home: plates that
-/// the parked point decides, and one of each kind.
+/// the parked point decides, and one of each kind. Last come plates that tell rules apart.
 pub fn plates() -> String {
     let rows = rows();
     let mut words = Words::default();
@@ -161,6 +172,25 @@ fn rows() -> Vec<Row> {
         }
     }
     rows.extend(home_rows());
+    rows.extend(told_apart_rows());
+    rows
+}
+
+/// Those that are not refused fit.
+fn told_apart_rows() -> Vec<Row> {
+    let random = &mut Random::new(17);
+    let ordered = told_apart::ordered().into_iter();
+    let mut rows: Vec<Row> =
+        ordered.map(|(plate, strategy)| row(plate, strategy, 0, random)).collect();
+    rows.extend(
+        told_apart::refused().into_iter().map(|(plate, strategy, [order, path, work])| Row {
+            plate,
+            strategy,
+            order,
+            path,
+            work,
+        }),
+    );
     rows
 }
 

@@ -1,4 +1,4 @@
-//! The caches of the waiting contours, which libcaches_c.a exports.
+//! The caches of the waiting contours, which librun_caches_c.a exports.
 //!
 //! The library proper does not export them: they are there to be compared.
 

@@ -1,4 +1,4 @@
-//! The parts below the retrace call that libgrid_c.a exports: grid, centre, cells, nearest,
+//! The parts below the retrace call that librun_grid_c.a exports: grid, centre, cells, nearest,
 //! samples.
 //!
 //! The library proper exports none of these: they are there to be compared and timed.

@@ -1,4 +1,4 @@
-//! The float leaves that libfloat_c.a exports.
+//! The float leaves that librun_float_c.a exports.
 //!
 //! The library proper exports none of these: they are there to be compared and timed.
 

@@ -2,7 +2,7 @@
 use mathlib.Core.Path.{◌∙◌}
 use Rattle.std.proofs.lemmas.Float.{T_from_true}
 use lib.Ieee.{binary64}
-use Rattle.division.specs.SameBits.{same_bits}
+use Rattle.division_laws.specs.SameBits.{same_bits}
 use Rattle.bits.proofs.Nans.{nan_same, one_nan}
 use Rattle.bits.proofs.same_bits.Goals as goal
 use Rattle.bits.proofs.same_bits.Goals.{then-is_nan-via-then-is_nan, then-is_nan-via-else-is_nan+then-is_nan-2}

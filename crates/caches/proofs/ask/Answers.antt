@@ -3,13 +3,16 @@ use Rattle.std.proofs.Common.{ap, ◌∙◌, ◌/◌, length}
 use Rattle.rules.specs.GridAndNearest.{nearest}
 use Rattle.rules.specs.SamplesAndCache.{ask_path}
 use Rattle.rules.specs.declared.Point.{Point}
-use Rattle.path.specs.Accepted.{point_on}
+use Rattle.plate_laws.specs.Accepted.{point_on}
 use Rattle.history.specs.History.{points}
 use Rattle.caches.proofs.ask.Goals as goal
 
 pub nearest-requires : goal.nearest-requires
 nearest-requires c =
-    (c.requires.2, rw c.point_at.ensures (point_on c.args.frame.now.points.now c.args.v.0 c.requires.1 c.requires.0))
+    record {
+      ready = c.requires.ready;
+      on_plate = rw c.point_at.ensures (point_on c.args.frame.now.points.now c.args.v.0 c.requires.on_plate c.requires.vertex);
+    }
 
 pub returns : goal.returns
 unfolding ask_path

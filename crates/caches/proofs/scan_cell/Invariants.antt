@@ -1,5 +1,5 @@
 -- The invariant of `caches::scan_cell`; the cursor comes nearer to the last vertex. Assumes nothing.
-use Rattle.caches.specs.Framed.{asked_by}
+use Rattle.caches.specs.FrameCaches.{asked_by}
 use Rattle.caches.proofs.Scans.{Scan, ahead}
 use Rattle.caches.proofs.scan_cell.Given as goal
 

@@ -1,5 +1,5 @@
 -- The invariant of `caches::seed_caches`. Assumes nothing.
-use Rattle.caches.specs.Framed.{asked_by}
+use Rattle.caches.specs.FrameCaches.{asked_by}
 use Rattle.caches.proofs.Sweeps.{Sweep}
 use Rattle.caches.proofs.seed_caches.Given as goal
 

@@ -1,9 +1,9 @@
 -- One cut more is put behind the last.
-use Rattle.std.proofs.Common.{◌≡◌, ◌+◌, ◌-◌, [], ◌∷◌, ◌++◌, map, ap, ◌∙◌, arith, Ok}
+use Rattle.std.proofs.Common.{◌≡◌, ◌+◌, ◌-◌, ◌++◌, map, ap, ◌∙◌, arith}
 use Rattle.rules.specs.Tools.{down_to}
-use Rattle.rules.specs.RetraceAndMarks.{cut_down}
-use Rattle.path_points.specs.Writers.{by_then, by_full}
-use Rattle.emission.proofs.Emitting.{down_to_lem, down_to_more, down_to_rest}
+use Rattle.rules.specs.Marks.{cut_down}
+use Rattle.path_points.specs.WriterCalls.{by_then, by_full}
+use Rattle.emission.proofs.DrawnByCalls.{down_to_more, down_to_rest}
 use Rattle.emission.proofs.cut_down.Goals as goal
 
 pub loop-i-preserved : goal.loop-i-preserved
@@ -13,8 +13,7 @@ loop-i-preserved c =
     let n = c.args.n in
     let i = c.loop-i.i in
     let k = c.in_ok-cut.ensures in
-    by_then c.args.writer.now c.loop-i.writer c.cut.new.writer (Ok tt) _ (down_to_lem v n i) (λ ss. ss ++ cut_down (v + (i - 1)) ∷ []) (down_to_lem v n (i - 1))
-    c.loop-i.invariant k.same k.written k.adds (down_to_more v n (i - 1) i (omega (arith, c.loop-i-test.true)) c.loop-i.auto.i)
+    by_then c.loop-i.invariant k.same k.written k.adds (down_to_more v n (i - 1) i (omega (arith, c.loop-i-test.true)) c.loop-i.auto.i)
 
 pub returns-in_err-cut-clause-adds : goal.returns-in_err-cut-clause-adds
 unfolding cut_down
@@ -25,8 +24,7 @@ returns-in_err-cut-clause-adds c =
     let j = i - 1 in
     let k = c.in_err-cut in
     let rest = map cut_down (down_to v j) in
-    by_full c.args.writer.now c.loop-i.writer c.cut.new.writer k.field-0.0 _ (down_to_lem v n i) (λ ss. ss ++ cut_down (v + j) ∷ [])
-    (λ ss. ss ++ map cut_down (down_to v n)) (λ ss. rest) c.loop-i.invariant k.ensures.same k.ensures.adds
+    by_full (λ ss. rest) c.loop-i.invariant k.ensures.same k.ensures.adds
     (λ ss. down_to_rest v n j (omega (arith, c.loop-i.auto.i)) ss ∙ ap (λ r. r ++ rest) (down_to_more v n j i (omega (arith, c.loop-i-test.true)) c.loop-i.auto.i ss))
     _ c.from_residual.ensures.0
 

@@ -1,9 +1,8 @@
 -- The landing, the cuts upward, the walk back and the cuts downward, one after the other.
 use Rattle.std.proofs.Common.{◌≡◌, ◌+◌, ◌-◌, sym, arith, Ok, Err}
-use Rattle.rules.specs.Marks.{kind_of, reference_of}
-use Rattle.rules.specs.RetraceAndMarks.{land}
-use Rattle.start.specs.Oriented.{contour_of}
-use Rattle.emission.proofs.Emitting.{lands_full, rises, rises_full, rises_done, walks_full, falls_done}
+use Rattle.rules.specs.Marks.{kind_of, reference_of, land}
+use Rattle.contours.specs.ContourOf.{contour_of}
+use Rattle.emission.proofs.DrawnByCalls.{lands_full, rises, rises_full, rises_done, walks_full, falls_done}
 use Rattle.emission.proofs.emit.Goals as goal
 
 pub returns-in_err-put-clause-adds : goal.returns-in_err-put-clause-adds
@@ -12,7 +11,7 @@ returns-in_err-put-clause-adds c =
     let m = c.args.landing in
     let v = reference_of m in
     let e = v - c.args.c.first.0 in
-    let is : c.args.c.first.0 + e ≡ v = omega (arith, c.requires.landed) in
+    let is : c.args.c.first.0 + e ≡ v = omega (arith, c.requires.low) in
     let p = rw c.reference.ensures at (sym c.point_at.ensures.point) in
     lands_full (kind_of m) (contour_of c.args.c) e v is c.args.points.now.coordinates.now c.args.writer.now c.put.new.self c.in_err-put.field-0.0
     (c.in_err-put.ensures.adds _ v p) _ c.from_residual.ensures.0
@@ -23,7 +22,7 @@ returns-in_err-cut_up-clause-adds c =
     let m = c.args.landing in
     let v = reference_of m in
     let e = v - c.args.c.first.0 in
-    let is : c.args.c.first.0 + e ≡ v = omega (arith, c.requires.landed) in
+    let is : c.args.c.first.0 + e ≡ v = omega (arith, c.requires.low) in
     let p = rw c.reference.ensures at (sym c.point_at.ensures.point) in
     let put = c.in_ok-put.ensures in
     let up = c.in_err-cut_up in
@@ -38,7 +37,7 @@ returns-then-e-eq0-clause-adds c =
     let m = c.args.landing in
     let v = reference_of m in
     let e = v - c.args.c.first.0 in
-    let is : c.args.c.first.0 + e ≡ v = omega (arith, c.requires.landed) in
+    let is : c.args.c.first.0 + e ≡ v = omega (arith, c.requires.low) in
     let p = rw c.reference.ensures at (sym c.point_at.ensures.point) in
     let put = c.in_ok-put.ensures in
     let up = c.in_ok-cut_up.ensures in
@@ -53,7 +52,7 @@ returns-in_err-walk_back-clause-adds c =
     let m = c.args.landing in
     let v = reference_of m in
     let e = v - c.args.c.first.0 in
-    let is : c.args.c.first.0 + e ≡ v = omega (arith, c.requires.landed) in
+    let is : c.args.c.first.0 + e ≡ v = omega (arith, c.requires.low) in
     let p = rw c.reference.ensures at (sym c.point_at.ensures.point) in
     let put = c.in_ok-put.ensures in
     let up = c.in_ok-cut_up.ensures in
@@ -70,7 +69,7 @@ returns-clause-adds c =
     let m = c.args.landing in
     let v = reference_of m in
     let e = v - c.args.c.first.0 in
-    let is : c.args.c.first.0 + e ≡ v = omega (arith, c.requires.landed) in
+    let is : c.args.c.first.0 + e ≡ v = omega (arith, c.requires.low) in
     let p = rw c.reference.ensures at (sym c.point_at.ensures.point) in
     let put = c.in_ok-put.ensures in
     let up = c.in_ok-cut_up.ensures in

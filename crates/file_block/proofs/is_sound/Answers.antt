@@ -1,6 +1,6 @@
 -- One test after another: the first that fails decides, and else the last.
 use Rattle.std.proofs.Common.{◌∙◌, sym, rules}
-use Rattle.file_block.specs.Testing.{number_fails, count_fails, zeros_fail, first_fails, second_fails}
+use Rattle.file_block.specs.BlockTests.{number_fails, count_fails, zeros_fail, first_fails, second_fails}
 use Rattle.file_block.specs.Parts.{unused_part_fails, all_but_last_part}
 use Rattle.file_block.proofs.is_sound.Goals as goal
 

@@ -2,7 +2,7 @@
 use Rattle.std.proofs.Common.{sym}
 use Rattle.std.specs.Float.Ieee.{of_bits}
 use Rattle.rules.specs.HandedOver.{plate_limit}
-use Rattle.file_block.specs.Testing.{pattern_off, pattern_number}
+use Rattle.file_block.specs.BlockTests.{pattern_off, pattern_number}
 use Rattle.file_block.proofs.on_plate.Goals as goal
 
 pub returns-then-bits-gt-INFINITY_BITS : goal.returns-then-bits-gt-INFINITY_BITS

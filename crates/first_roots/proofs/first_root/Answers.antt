@@ -11,7 +11,7 @@ returns-clause-root c =
     subst (λ (e : ℕ). IsFirstRoot (c.args.n / 2 ^ 52) e) (sym c.from.ensures) (entry_is_first_root (c.args.n / 2 ^ 52) _ (omega (arith, c.requires)) (omega (arith, c.requires)))
 
 pub returns-clause-scaled : goal.returns-clause-scaled
-returns-clause-scaled c = first_root_is_near c.args.n c.from.result c.requires.0 c.requires.1 (returns-clause-root c)
+returns-clause-scaled c = first_root_is_near c.args.n c.from.result c.requires.least c.requires.most (returns-clause-root c)
 
 pub returns-clause-whole : goal.returns-clause-whole
 returns-clause-whole c r i = whole_root_is_near (c.args.n * 2 ^ 48) (c.from.result * 2 ^ 40) r (returns-clause-scaled c) i

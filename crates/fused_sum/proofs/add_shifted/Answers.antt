@@ -12,4 +12,4 @@ returns c =
     let w = c.plus-w in
     c.round_pack_wide.ensures
     ∙ sum_is p.hi p.lo q.hi q.lo c.args.d r.result.value.hi r.result.value.lo r.result.sticky
-    c.requires.0 c.requires.1 (omega arith) c.requires.2 (omega arith) r.ensures.0 r.ensures.1 w.result.hi w.result.lo w.ensures.0 w.ensures.1 c.args.e c.requires.3
+    c.requires.least c.requires.first (omega arith) c.requires.second (omega arith) r.ensures.value r.ensures.sticky w.result.hi w.result.lo w.ensures.value w.ensures.low c.args.e c.requires.shift

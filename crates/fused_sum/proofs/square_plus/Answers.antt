@@ -6,12 +6,12 @@ use Rattle.fused_sum.proofs.square_plus.Goals as goal
 pub returns-then-b-eq0 : goal.returns-then-b-eq0
 returns-then-b-eq0 c =
     let b = c.magnitude_of-b in
-    second_zero c.args.x c.args.y b.result.significand b.result.exponent c.requires.0 c.requires.1 b.ensures c.if-b-eq0.true
+    second_zero c.args.x c.args.y b.result.significand b.result.exponent c.requires.finite c.requires.plus b.ensures c.if-b-eq0.true
 
 pub returns-then-a-eq0 : goal.returns-then-a-eq0
 returns-then-a-eq0 c =
     let a = c.magnitude_of-a in
-    first_zero c.args.x c.args.y a.result.significand a.result.exponent c.requires.0 c.requires.1 a.ensures c.if-a-eq0.true
+    first_zero c.args.x c.args.y a.result.significand a.result.exponent c.requires.finite c.requires.plus a.ensures c.if-a-eq0.true
 
 pub returns : goal.returns
 returns c =
@@ -22,4 +22,4 @@ returns c =
     c.normalized_sum.ensures
     ∙ both_nonzero c.args.x c.args.y a.result.significand a.result.exponent b.result.significand b.result.exponent
     u.result.significand u.result.exponent v.result.significand v.result.exponent
-    c.requires.0 c.requires.1 a.ensures b.ensures u.ensures v.ensures
+    c.requires.finite c.requires.plus a.ensures b.ensures u.ensures v.ensures

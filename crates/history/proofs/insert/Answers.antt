@@ -5,4 +5,4 @@ use Rattle.history.proofs.insert.Goals as goal
 
 pub returns : goal.returns
 unfolding inserted cell_number
-returns c = rw (c.cell_number-cell.ensures.0, c.cell_of.ensures.0, c.cell_of.ensures.1)
+returns c = rw (c.cell_number-cell.ensures.number, c.cell_of.ensures.col, c.cell_of.ensures.row)

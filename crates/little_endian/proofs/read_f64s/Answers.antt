@@ -1,7 +1,7 @@
 -- At the start no number is read, and each turn reads one more, which is no NaN.
 use Rattle.std.proofs.Common.{refl}
 use Rattle.little_endian.specs.Bytes.{floats}
-use Rattle.little_endian.specs.Stepping.{read_number}
+use Rattle.little_endian.specs.PatternSteps.{read_number}
 use Rattle.little_endian.specs.Widths.{read_next}
 use Rattle.little_endian.proofs.read_f64s.Goals as goal
 

@@ -1,20 +1,20 @@
 -- The totals of one path point after the other.
 use Rattle.std.proofs.Common.{◌≡◌, suc, ◌/◌, ◌≤◌, length, sym, ◌∙◌, add-one, arith}
-use Rattle.lengths.specs.Adding.{so_far_within}
-use Rattle.measure.proofs.Totalled.{none_is, short, within_more, totals_start, totals_step, totals_end}
+use Rattle.length_laws.specs.Adding.{so_far_within}
+use Rattle.measure.proofs.TotalsByPoint.{none_is, short, within_more, totals_start, totals_step, totals_end}
 use Rattle.measure.proofs.totals.Goals as goal
 
 pub loop-k-init : goal.loop-k-init
 loop-k-init c =
     let d = c.default.ensures.1 in
     let none = none_is c.default.result c.args.n (d.0, d.1.0, d.1.1.0, d.1.1.1.0, d.1.1.1.1.0, d.1.1.1.1.1.0, d.1.1.1.1.1.1) in
-    record { kept = λ i h. absurd (omega arith); counted = none ∙ sym (totals_start _ _ _ c.requires.0) }
+    record { kept = λ i h. absurd (omega arith); counted = none ∙ sym (totals_start _ _ _ c.requires.walked) }
 
 pub measured-length-requires : goal.measured-length-requires
 measured-length-requires c =
-    let half : length c.args.path.now / 2 ≡ c.args.n = omega (arith, c.requires.0.whole) in
+    let half : length c.args.path.now / 2 ≡ c.args.n = omega (arith, c.requires.walked.whole) in
     let room : c.args.n ≤ length c.loop-k.kept = omega arith in
-    rw half ((c.requires.0, omega arith, room), c.loop-k.invariant.kept)
+    rw half (record { walked = c.requires.walked; pair = omega arith; room = room; kept = c.loop-k.invariant.kept })
 
 pub add-requires : goal.add-requires
 add-requires c =
@@ -29,8 +29,8 @@ loop-k-preserved c =
       kept = rw add-one c.measured-length.ensures.kept;
       counted =
           rw (add-one, c.add.ensures, l.invariant.counted, c.measured-length.ensures.length)
-          (sym (totals_step _ _ _ c.requires.0 l.k (omega arith)));
+          (sym (totals_step _ _ _ c.requires.walked l.k (omega arith)));
     }
 
 pub returns : goal.returns
-returns c = c.loop-k.invariant.counted ∙ totals_end _ _ _ c.requires.0 c.loop-k.k (omega arith)
+returns c = c.loop-k.invariant.counted ∙ totals_end _ _ _ c.requires.walked c.loop-k.k (omega arith)

@@ -2,7 +2,7 @@
 use Rattle.std.proofs.Common.{sym, ◌∙◌}
 use Rattle.rules.specs.GridAndNearest.{wins, found}
 use Rattle.point.specs.Bound.{beyond_above, above_not_below, above_not_equal}
-use Rattle.nearest.proofs.Winning.{first_found, passed_over, wins_over, place_before}
+use Rattle.nearest.proofs.NearerPoint.{first_found, passed_over, wins_over, place_before}
 use Rattle.nearest.proofs.nearer.Goals as goal
 
 pub returns-in_default : goal.returns-in_default

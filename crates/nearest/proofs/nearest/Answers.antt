@@ -7,28 +7,28 @@ use Rattle.nearest.proofs.nearest.Goals as goal
 use Rattle.nearest.proofs.nearest.Goals.{else-loop-row-test, then-loop-row-test+else-loop-col-test+else-row-row-end}
 
 pub rings-init : goal.rings-init
-rings-init c = search_start _ (c.requires.0, c.args.g.sane, c.requires.1) _ c.max-rings.ensures
+rings-init c = search_start _ (c.requires.ready, c.args.g.sane, c.requires.on_plate) _ c.max-rings.ensures
 
 pub loop-row-init : goal.loop-row-init
 unfolding square_of
-loop-row-init c = ring_start _ (c.requires.0, c.args.g.sane, c.requires.1) _ _ c.rings.invariant.squared
+loop-row-init c = ring_start _ (c.requires.ready, c.args.g.sane, c.requires.on_plate) _ _ c.rings.invariant.squared
 
 pub loop-col-init : goal.loop-col-init
 unfolding square_of
-loop-col-init c = row_start _ (c.requires.0, c.args.g.sane, c.requires.1) _ _ _ c.loop-row.invariant.squared
+loop-col-init c = row_start _ (c.requires.ready, c.args.g.sane, c.requires.on_plate) _ _ _ c.loop-row.invariant.squared
 
 pub loop-cursor-init : goal.loop-cursor-init
 loop-cursor-init c =
-    rw c.cell_number-cell.ensures.0
-    (cell_start _ (c.requires.0, c.args.g.sane, c.requires.1) _ (omega arith) (omega arith) _ c.loop-col.invariant.squared)
+    rw c.cell_number-cell.ensures.number
+    (cell_start _ (c.requires.ready, c.args.g.sane, c.requires.on_plate) _ (omega arith) (omega arith) _ c.loop-col.invariant.squared)
 
 pub loop-cursor-smaller : goal.loop-cursor-smaller
 loop-cursor-smaller c =
-    cell_falls _ (c.requires.0, c.args.g.sane, c.requires.1) _ (omega arith) (omega arith) _ _ _ c.loop-cursor.invariant c.loop-cursor-test.true
+    cell_falls _ (c.requires.ready, c.args.g.sane, c.requires.on_plate) _ (omega arith) (omega arith) _ _ _ c.loop-cursor.invariant c.loop-cursor-test.true
 
 pub loop-cursor-preserved : goal.loop-cursor-preserved
 loop-cursor-preserved c =
-    cell_next _ (c.requires.0, c.args.g.sane, c.requires.1) _ (omega arith) (omega arith) _ _ _ c.loop-cursor.invariant c.loop-cursor-test.true _
+    cell_next _ (c.requires.ready, c.args.g.sane, c.requires.on_plate) _ (omega arith) (omega arith) _ _ _ c.loop-cursor.invariant c.loop-cursor-test.true _
     (rw (← c.path_point.ensures) (c.nearer-best.ensures _))
 
 pub overflow_add-col : goal.overflow_add-col
@@ -43,7 +43,7 @@ pub loop-col-preserved : goal.loop-col-preserved
 unfolding square_of
 loop-col-preserved c =
     rw c.column_step-step.ensures
-    (row_next _ (c.requires.0, c.args.g.sane, c.requires.1) _ _ _ _ _ _ _ c.loop-col.invariant c.loop-cursor.invariant c.loop-cursor-test.false
+    (row_next _ (c.requires.ready, c.args.g.sane, c.requires.on_plate) _ c.loop-col.invariant c.loop-cursor.invariant c.loop-cursor-test.false
     record {
       first_col = c.loop-col.invariant.first;
       last_col = omega (arith, c.loop-col-test.true);
@@ -54,24 +54,24 @@ loop-col-preserved c =
 pub loop-row-preserved : goal.loop-row-preserved
 unfolding square_of
 loop-row-preserved c =
-    ring_next _ (c.requires.0, c.args.g.sane, c.requires.1) _ _ _ _ _ _ c.loop-row.invariant c.loop-col.invariant c.loop-col-test.false
+    ring_next _ (c.requires.ready, c.args.g.sane, c.requires.on_plate) _ c.loop-row.invariant c.loop-col.invariant c.loop-col-test.false
 
 pub rings-preserved : goal.rings-preserved
 unfolding square_of
 rings-preserved c =
     let at = c.cell_of-c.ensures in
-    let e = c.square_of-s.ensures.0 ∙ same_square _ _ _ _ at.0 at.1 in
+    let e = c.square_of-s.ensures.square ∙ same_square _ _ _ _ at.col at.row in
     let far = sym c.is_past_best.ensures ∙ c.if-is_past_best.false in
     elim c.loop-row-test.branch [
-      | else-loop-row-test w ↦ rw w.best-is (search_next _ (c.requires.0, c.args.g.sane, c.requires.1) _ _ _ c.rings.invariant _ _ _ e c.rings-test.true far c.loop-row.invariant (omega (arith, w.loop-row-test.false)))
+      | else-loop-row-test w ↦ rw w.best-is (search_next _ (c.requires.ready, c.args.g.sane, c.requires.on_plate) _ _ _ c.rings.invariant _ _ _ e c.rings-test.true far c.loop-row.invariant (omega (arith, w.loop-row-test.false)))
       | then-loop-row-test+else-loop-col-test+else-row-row-end w ↦
-          let i = ring_next c.args.q (c.requires.0, c.args.g.sane, c.requires.1) _ _ _ _ _ _ c.loop-row.invariant w.loop-col.invariant w.loop-col-test.false in
-          rw w.best-is (search_next _ (c.requires.0, c.args.g.sane, c.requires.1) _ _ _ c.rings.invariant _ _ _ e c.rings-test.true far i (omega arith))
+          let i = ring_next c.args.q (c.requires.ready, c.args.g.sane, c.requires.on_plate) _ c.loop-row.invariant w.loop-col.invariant w.loop-col-test.false in
+          rw w.best-is (search_next _ (c.requires.ready, c.args.g.sane, c.requires.on_plate) _ _ _ c.rings.invariant _ _ _ e c.rings-test.true far i (omega arith))
     ]
 
 pub returns-after-rings : goal.returns-after-rings
-returns-after-rings c = search_done _ (c.requires.0, c.args.g.sane, c.requires.1) _ _ _ c.rings.invariant c.rings-test.false
+returns-after-rings c = search_done _ (c.requires.ready, c.args.g.sane, c.requires.on_plate) _ _ _ c.rings.invariant c.rings-test.false
 
 pub returns-then-is_past_best : goal.returns-then-is_past_best
 returns-then-is_past_best c =
-    search_stop _ (c.requires.0, c.args.g.sane, c.requires.1) _ _ _ c.rings.invariant c.rings-test.true (sym c.is_past_best.ensures ∙ c.if-is_past_best.true)
+    search_stop _ (c.requires.ready, c.args.g.sane, c.requires.on_plate) _ _ _ c.rings.invariant c.rings-test.true (sym c.is_past_best.ensures ∙ c.if-is_past_best.true)

@@ -7,13 +7,13 @@ use Rattle.optimize.proofs.put_in_order.Goals as goal
 
 pub put_first-requires : goal.put_first-requires
 unfolding plate
-put_first-requires c = (plate_of c.args.checked.now.input, c.requires.0, c.requires.1, c.args.checked.now.accepted)
+put_first-requires c = (plate_of c.args.checked.now.input, c.requires.listed, c.requires.start, c.args.checked.now.accepted)
 
 pub loop-done-init : goal.loop-done-init
 unfolding plate
 loop-done-init c =
     let e : length c.args.work.now ≡ length c.put_first.new.work = omega arith in
-    (refl, rw e at (c.put_first.ensures (plate_of c.args.checked.now.input) c.requires.0 c.requires.1 c.args.checked.now.accepted))
+    (refl, rw e at (c.put_first.ensures (plate_of c.args.checked.now.input) c.requires.listed c.requires.start c.args.checked.now.accepted))
 
 pub loop-done-preserved : goal.loop-done-preserved
 unfolding Continued
@@ -29,4 +29,4 @@ pub returns : goal.returns
 returns c =
     let st = c.loop-done.invariant.1 in
     let e : c.loop-done.done ≡ length c.loop-done.work = omega (arith, st.total, c.loop-done-test.false) in
-    rw e at (whole_order _ _ _ _ _ st (omega arith))
+    rw e at (whole_order st (omega arith))

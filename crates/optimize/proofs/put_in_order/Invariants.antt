@@ -1,7 +1,7 @@
 -- `State`, of as many contours as are in order.
 use Rattle.std.proofs.Common.{length, ◌≡◌}
 use Rattle.rules.specs.HandedOver.{plate_of}
-use Rattle.start.specs.Oriented.{oriented_of}
+use Rattle.start.specs.OrientedContours.{oriented_of}
 use Rattle.optimize.specs.State.{State}
 use Rattle.optimize.proofs.put_in_order.Given as goal
 

@@ -4,7 +4,7 @@ use Rattle.std.specs.Int.{from_bool}
 use Rattle.slices.specs.Pairs.{pairs, pairs_store}
 use Rattle.rules.specs.Tools.{pick}
 use Rattle.rules.specs.HandedOver.{over}
-use Rattle.packed_contours.specs.Packed.{number_in}
+use Rattle.packed_contours.specs.PackedNumbers.{number_in}
 use Rattle.order.specs.Senses.{told_sense}
 use Rattle.order.proofs.write_entries.Goals as goal
 

@@ -2,7 +2,7 @@
 use Rattle.std.proofs.Common.{length, take, ◌≡◌}
 use Rattle.rules.specs.HandedOver.{over}
 use Rattle.slices.specs.Pairs.{pairs}
-use Rattle.packed_contours.specs.Packed.{number_in}
+use Rattle.packed_contours.specs.PackedNumbers.{number_in}
 use Rattle.order.specs.Senses.{told_sense}
 use Rattle.order.proofs.write_entries.Given as goal
 

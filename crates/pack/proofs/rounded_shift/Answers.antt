@@ -12,5 +12,5 @@ returns c =
     let t = c.args.sticky in
     let cut = c.args.cut in
     c.nearest_even.ensures
-    ∙ ap₂ (λ (x y : ℕ). nearest (q / 2 ^ cut) (compare (2 * x + t) y)) (shifted_out q cut c.ranges.q.fits) (one_shifted cut c.requires.2)
-    ∙ shift_rounds q t cut c.requires.1
+    ∙ ap₂ (λ (x y : ℕ). nearest (q / 2 ^ cut) (compare (2 * x + t) y)) (shifted_out q cut c.ranges.q.fits) (one_shifted cut c.requires.cut)
+    ∙ shift_rounds q t cut c.requires.sticky

@@ -2,10 +2,11 @@
 use Rattle.std.proofs.Common.{◌≡◌, ◌<◌, List, sym, ap, subst, ◌∙◌, arith, length}
 use Rattle.rules.specs.Tools.{sum}
 use Rattle.rules.specs.HandedOver.{Contour, contours_of}
-use Rattle.path.specs.Lists.{All}
-use Rattle.start.specs.Oriented.{contour_of}
-use Rattle.start.specs.Left.{contours_left, Within, all_within}
-use Rattle.packed_contours.proofs.Listing.{Listed, few_contours, begun, n_few, whole, store}
+use Rattle.plate_laws.specs.Lists.{All}
+use Rattle.plate_laws.specs.Ordering.{few_contours}
+use Rattle.contours.specs.ContourOf.{contour_of}
+use Rattle.contours.specs.ContoursLeft.{contours_left, WithinCounts, all_within}
+use Rattle.packed_contours.proofs.ListedContours.{Listed, begun, n_few, whole, store}
 use Rattle.packed_contours.proofs.Words.{word_forward}
 use Rattle.packed_contours.proofs.list_contours.Goals as goal
 use Rattle.packed_contours.proofs.list_contours.Goals.{In-Some}
@@ -18,46 +19,47 @@ loop-c-init c =
     record {
       can = tt;
       ends = tt;
-      within = subst (All (Within (length ns) (sum ns))) (sym e) (all_within ns);
+      within = subst (All (WithinCounts (length ns) (sum ns))) (sym e) (all_within ns);
       listed = subst (λ (left : List Contour). Listed (contours_of ns) left c.args.work.now c.args.work.now 0) (sym e) (begun (contours_of ns) c.args.work.now);
     }
 
-next_within : (c : In-Some) → Within (length c.args.lengths.now) (sum c.args.lengths.now) (contour_of c.in-Some.c)
+next_within : (c : In-Some) → WithinCounts (length c.args.lengths.now) (sum c.args.lengths.now) (contour_of c.in-Some.c)
 next_within c = (rw c.in-Some.ensures.steps at c.loop-c.invariant.within).0
 
 -- a place is left for each contour that is
 place : (c : In-Some) → c.loop-c.n < length c.args.lengths.now
 place c =
-    omega (arith, n_few _ _ _ _ _ c.loop-c.invariant.listed, ap length c.in-Some.ensures.steps, few_contours 0 0 c.args.lengths.now)
+    omega (arith, n_few c.loop-c.invariant.listed, ap length c.in-Some.ensures.steps, few_contours 0 0 c.args.lengths.now)
 
 pub of-requires : goal.of-requires
 unfolding contour_of
 of-requires c =
     let w = next_within (goal.at.of-requires c).In-Some in
-    (omega (arith, w.number, c.requires.0), omega (arith, w.last, c.requires.1))
+    record { few = omega (arith, w.number, c.requires.few); small = omega (arith, w.last, c.requires.small) }
 
 pub bounds-work-n : goal.bounds-work-n
-bounds-work-n c = omega (arith, place (goal.at.bounds-work-n c).In-Some, c.requires.2, c.loop-c.invariant.listed.same)
+bounds-work-n c = omega (arith, place (goal.at.bounds-work-n c).In-Some, c.requires.room, c.loop-c.invariant.listed.same)
 
 pub offset_bounds-work-n : goal.offset_bounds-work-n
-offset_bounds-work-n c = omega (arith, place (goal.at.offset_bounds-work-n c).In-Some, c.requires.0)
+offset_bounds-work-n c = omega (arith, place (goal.at.offset_bounds-work-n c).In-Some, c.requires.few)
 
 pub overflow_add-n : goal.overflow_add-n
-overflow_add-n c = omega (arith, place (goal.at.overflow_add-n c).In-Some, c.requires.0)
+overflow_add-n c = omega (arith, place (goal.at.overflow_add-n c).In-Some, c.requires.few)
 
 pub loop-c-preserved : goal.loop-c-preserved
 unfolding contour_of
 loop-c-preserved c =
     let l = c.loop-c.invariant in
     let e = c.in-Some.ensures.steps in
+    let packed = c.of.ensures in
     record {
       can = tt;
       ends = tt;
       within = (rw e at l.within).1;
-      listed = store _ _ _ _ _ _ _ (rw e at l.listed) (omega (arith, place (goal.at.loop-c-preserved c).In-Some, c.requires.2)) (word_forward _ c.of.ensures c.into.ensures);
+      listed = store (rw e at l.listed) (omega (arith, place (goal.at.loop-c-preserved c).In-Some, c.requires.room)) (word_forward _ packed.number packed.first packed.reversed c.into.ensures);
     }
 
 pub returns : goal.returns
 returns c =
-    let w = whole _ _ _ _ _ c.loop-c.invariant.listed c.in-None.ensures.steps.0 in
-    (omega (arith, w.0, few_contours 0 0 c.args.lengths.now), w.0, w.1)
+    let w = whole c.loop-c.invariant.listed c.in-None.ensures.steps.0 in
+    record { few = omega (arith, w.0, few_contours 0 0 c.args.lengths.now); count = w.0; words = w.1 }

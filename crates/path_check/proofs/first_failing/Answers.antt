@@ -1,6 +1,6 @@
 -- The first path point that breaks a rule, or their end.
 use Rattle.std.proofs.Common.{◌≡◌, ◌/◌, length, sym, ◌∙◌, arith, add-one}
-use Rattle.path_check.specs.Failing.{first_pass, first_fail, first_end}
+use Rattle.path_check.specs.FirstFailing.{first_pass, first_fail, first_end}
 use Rattle.path_check.proofs.first_failing.Goals as goal
 
 pub returns-then-not-keeps_rules-clause-found : goal.returns-then-not-keeps_rules-clause-found

@@ -8,7 +8,7 @@ use Rattle.rules.specs.HandedOver.{Contour}
 use Rattle.statement.specs.PathCheck.{complete}
 use Rattle.path_rules.specs.Parts.{TalliedBy}
 use Rattle.path_rules.specs.declared.work.Words.{Words}
-use Rattle.path_check.specs.Ending.{TellsLeftOut, none_complete, left_incomplete}
+use Rattle.path_check.specs.LeftOut.{TellsLeftOut, none_complete, left_incomplete}
 use Rattle.path_check.proofs.is_complete.Goals as goal
 
 abbrev vertices_of : Words → List ℕ

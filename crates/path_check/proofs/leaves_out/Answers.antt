@@ -1,5 +1,5 @@
 -- What the words say of vertex v, whose contour is not unentered.
-use Rattle.path_check.specs.Ending.{says_open}
+use Rattle.path_check.specs.LeftOut.{says_open}
 use Rattle.path_check.proofs.leaves_out.Goals as goal
 
 pub returns-else-contour_word-eq-UNENTERED : goal.returns-else-contour_word-eq-UNENTERED

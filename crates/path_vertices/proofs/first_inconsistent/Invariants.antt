@@ -1,7 +1,7 @@
 -- The path points before i keep the rules; the words alone change.
 use Rattle.std.proofs.Common.{◌≡◌}
-use Rattle.landings.specs.Holds.{SameParts}
-use Rattle.path_vertices.specs.Reading.{ReadTo}
+use Rattle.landings.specs.LandedBefore.{SameParts}
+use Rattle.path_vertices.specs.ReadTo.{ReadTo}
 use Rattle.path_vertices.proofs.first_inconsistent.Given as goal
 
 abbrev pub invariant-loop-i : goal.invariant-loop-i

@@ -5,12 +5,12 @@ use Rattle.std.proofs.lemmas.Result.{err_from_is_err_and}
 use Rattle.rules.specs.Tools.{sum}
 use Rattle.rules.specs.HandedOver.{RefusalRow, plate, plate_of, plate_limit, plate_rows, answer_of, gives, refused_by, bad_layer_count, bad_layer, off_the_plate, parked_coordinates, input_rows}
 use Rattle.rules.specs.declared.Input.{Input}
-use Rattle.path.specs.Lists.{all_append}
-use Rattle.path.specs.Rows.{Passed, rows_pass}
-use Rattle.path.specs.Accepted.{input_gives}
+use Rattle.plate_laws.specs.Lists.{all_append}
+use Rattle.plate_laws.specs.Rows.{Passed, rows_pass}
+use Rattle.plate_laws.specs.Accepted.{input_gives}
 use Rattle.plate.specs.Answer.{count_rows}
-use Rattle.plate.specs.Counted.{rows_counted}
-use Rattle.plate.proofs.Told.{passed, refuses_among}
+use Rattle.plate.specs.PassedCounts.{rows_counted}
+use Rattle.plate.proofs.RowAnswers.{passed, refuses_among}
 use Rattle.plate.proofs.check.Goals as goal
 use Rattle.plate.proofs.check.Goals.{In_ok-check_range}
 
@@ -43,7 +43,7 @@ returns-in_err-check_counts-clause-answer c =
 
 pub check_layers-requires : goal.check_layers-requires
 check_layers-requires c =
-    let few = rows_counted _ _ (passed (counts c.args.input.now) _ _ c.in_ok-check_counts.ensures).0 in
+    let few = rows_counted _ _ (passed (counts c.args.input.now) _ _ c.in_ok-check_counts.ensures).rows in
     omega (arith, few.contours)
 
 pub returns-in_err-check_layers-clause-answer : goal.returns-in_err-check_layers-clause-answer
@@ -52,7 +52,7 @@ returns-in_err-check_layers-clause-answer c =
     let p = err_from_is_err_and c.from_residual-in_err-check_layers.result c.from_residual-in_err-check_layers.ensures.1 in
     let i = c.args.input.now in
     rw (p.1, p.2)
-    (refuses_among (counts i) (layers i) (parked i ++ points i) _ _ _ (passed (counts i) _ _ c.in_ok-check_counts.ensures).0 c.in_err-check_layers.ensures)
+    (refuses_among (counts i) (layers i) (parked i ++ points i) _ _ _ (passed (counts i) _ _ c.in_ok-check_counts.ensures).rows c.in_err-check_layers.ensures)
 
 pub returns-in_err-check_parked-clause-answer : goal.returns-in_err-check_parked-clause-answer
 unfolding plate input_rows count_rows
@@ -60,13 +60,13 @@ returns-in_err-check_parked-clause-answer c =
     let p = err_from_is_err_and c.from_residual-in_err-check_parked.result c.from_residual-in_err-check_parked.ensures.1 in
     let i = c.args.input.now in
     let passes : Passed (counts i ++ layers i) =
-    all_append (λ r. r.test ≡ false) (counts i) (layers i) (passed (counts i) _ _ c.in_ok-check_counts.ensures).0 (passed (layers i) _ _ c.in_ok-check_layers.ensures).0
+    all_append (λ r. r.test ≡ false) (counts i) (layers i) (passed (counts i) _ _ c.in_ok-check_counts.ensures).rows (passed (layers i) _ _ c.in_ok-check_layers.ensures).rows
     in
     rw (p.1, p.2) (refuses_among (counts i ++ layers i) (parked i) (points i) _ _ _ passes c.in_err-check_parked.ensures)
 
 pub check_range-requires : goal.check_range-requires
 check_range-requires c =
-    let few = rows_counted _ _ (passed (counts c.args.input.now) _ _ c.in_ok-check_counts.ensures).0 in
+    let few = rows_counted _ _ (passed (counts c.args.input.now) _ _ c.in_ok-check_counts.ensures).rows in
     omega (arith, few.points, few.counted)
 
 pub returns-in_err-check_range-clause-answer : goal.returns-in_err-check_range-clause-answer
@@ -75,8 +75,8 @@ returns-in_err-check_range-clause-answer c =
     let p = err_from_is_err_and c.from_residual-in_err-check_range.result c.from_residual-in_err-check_range.ensures.1 in
     let i = c.args.input.now in
     let passes : Passed (counts i ++ (layers i ++ parked i)) =
-    before_points i (passed (counts i) _ _ c.in_ok-check_counts.ensures).0 (passed (layers i) _ _ c.in_ok-check_layers.ensures).0
-    (passed (parked i) _ _ c.in_ok-check_parked.ensures).0
+    before_points i (passed (counts i) _ _ c.in_ok-check_counts.ensures).rows (passed (layers i) _ _ c.in_ok-check_layers.ensures).rows
+    (passed (parked i) _ _ c.in_ok-check_parked.ensures).rows
     in
     rw (p.1, p.2) (refuses_among (counts i ++ (layers i ++ parked i)) (points i) [] _ _ _ passes c.in_err-check_range.ensures)
 
@@ -86,9 +86,9 @@ unfolding off_the_plate plate_limit of_bits
 all_passed c =
     let i = c.args.input.now in
     whole i
-    (before_points i (passed (counts i) _ _ c.in_ok-check_counts.ensures).0 (passed (layers i) _ _ c.in_ok-check_layers.ensures).0
-    (passed (parked i) _ _ c.in_ok-check_parked.ensures).0)
-    (passed (points i) _ _ c.in_ok-check_range.ensures).0
+    (before_points i (passed (counts i) _ _ c.in_ok-check_counts.ensures).rows (passed (layers i) _ _ c.in_ok-check_layers.ensures).rows
+    (passed (parked i) _ _ c.in_ok-check_parked.ensures).rows)
+    (passed (points i) _ _ c.in_ok-check_range.ensures).rows
 
 pub invariant_of-result : goal.invariant_of-result
 unfolding plate

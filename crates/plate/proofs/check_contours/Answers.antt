@@ -4,11 +4,11 @@ use Rattle.std.specs.Float.Ieee.{of_bits}
 use Rattle.std.proofs.lemmas.Result.{err_from_is_err_and}
 use Rattle.rules.specs.Tools.{sum}
 use Rattle.rules.specs.HandedOver.{answer_of, gives, plate_limit, off_the_plate, contour_rows}
-use Rattle.path.specs.Lists.{all_append}
-use Rattle.path.specs.Rows.{rows_pass}
+use Rattle.plate_laws.specs.Lists.{all_append}
+use Rattle.plate_laws.specs.Rows.{rows_pass}
 use Rattle.plate.specs.Answer.{count_rows}
-use Rattle.plate.specs.Counted.{rows_counted}
-use Rattle.plate.proofs.Told.{passed, refuses_among}
+use Rattle.plate.specs.PassedCounts.{rows_counted}
+use Rattle.plate.proofs.RowAnswers.{passed, refuses_among}
 use Rattle.plate.proofs.check_contours.Goals as goal
 
 pub returns-in_err-count : goal.returns-in_err-count
@@ -19,7 +19,7 @@ returns-in_err-count c =
 
 pub check_range-requires : goal.check_range-requires
 check_range-requires c =
-    let few = rows_counted _ _ (passed (count_rows c.args.points.now c.args.lengths.now) _ _ c.in_ok-count.ensures).0 in
+    let few = rows_counted _ _ (passed (count_rows c.args.points.now c.args.lengths.now) _ _ c.in_ok-count.ensures).rows in
     omega (arith, few.points, few.counted)
 
 pub returns-in_err-check_range : goal.returns-in_err-check_range
@@ -28,7 +28,7 @@ returns-in_err-check_range c =
     let p = err_from_is_err_and c.from_residual-in_err-check_range.result c.from_residual-in_err-check_range.ensures.1 in
     let cs = count_rows c.args.points.now c.args.lengths.now in
     rw (p.1, p.2)
-    (refuses_among cs (off_the_plate c.args.points.now ∷ []) [] _ _ _ (passed cs _ _ c.in_ok-count.ensures).0 c.in_err-check_range.ensures)
+    (refuses_among cs (off_the_plate c.args.points.now ∷ []) [] _ _ _ (passed cs _ _ c.in_ok-count.ensures).rows c.in_err-check_range.ensures)
 
 pub returns : goal.returns
 unfolding answer_of contour_rows count_rows off_the_plate plate_limit of_bits
@@ -37,4 +37,4 @@ returns c =
     let qs = off_the_plate c.args.points.now ∷ [] in
     let counts = passed cs (sum c.args.lengths.now) c.in_ok-count.count c.in_ok-count.ensures in
     let on = passed qs tt tt c.in_ok-check_range.ensures in
-    sym (rows_pass (cs ++ qs) (all_append (λ r. r.test ≡ false) cs qs counts.0 on.0) (gives (sum c.args.lengths.now)) ∙ counts.1)
+    sym (rows_pass (cs ++ qs) (all_append (λ r. r.test ≡ false) cs qs counts.rows on.rows) (gives (sum c.args.lengths.now)) ∙ counts.answer)

@@ -1,7 +1,7 @@
 -- Each turn copies one more block, and then all are copied.
 use Rattle.std.proofs.Common.{◌≡◌, ◌∙◌, ◌+◌, ◌-◌, ◌*◌, ◌/◌, ◌<◌, ◌≤◌, length, take, drop, length-take-le, length-drop, refl, rules, arith}
 use Rattle.file_laws.specs.Chunks.{whole_chunk_at}
-use Rattle.file_laws.specs.Copying.{none_copied}
+use Rattle.file_laws.specs.BlockCopies.{none_copied}
 use Rattle.file_laws.specs.Parts.{part_begins, parts_copied, part_numbers, copy_part}
 use Rattle.plate_file.proofs.copy_blocks.Goals as goal
 

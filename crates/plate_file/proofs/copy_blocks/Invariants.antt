@@ -1,6 +1,6 @@
 -- The first i blocks are copied.
 use Rattle.std.proofs.Common.{◌≡◌, length}
-use Rattle.file_laws.specs.Copying.{copied_to}
+use Rattle.file_laws.specs.BlockCopies.{copied_to}
 use Rattle.plate_file.proofs.copy_blocks.Given as goal
 
 abbrev pub invariant-loop-i : goal.invariant-loop-i

@@ -2,7 +2,7 @@
 use Rattle.std.proofs.Common.{◌≡◌, ◌*◌, ◌/◌, length, take, length-take-le, sym, arith}
 use Rattle.std.proofs.lemmas.Result.{err_from_is_err_and}
 use Rattle.rules.specs.HandedOver.{answer_of, number_of, place_of, refusal, over}
-use Rattle.file_laws.specs.Copying.{points_read}
+use Rattle.file_laws.specs.BlockCopies.{points_read}
 use Rattle.file_laws.specs.Calls.{read_refused, read_full, read_whole}
 use Rattle.plate_file.proofs.read_file.Goals as goal
 

@@ -4,7 +4,7 @@ use Rattle.rules.specs.HandedOver.{answer_of, number_of, place_of, refusal}
 use Rattle.file_format.specs.PlateFile.{count_in}
 use Rattle.file_laws.specs.Chunks.{whole_chunk_at}
 use Rattle.file_laws.specs.Block.{sound_few}
-use Rattle.file_laws.specs.Counting.{left_short, left_damaged, left_many, left_beyond, left_last, left_full, scan_begun, scan_refused, scan_given, scan_on}
+use Rattle.file_laws.specs.PointCounts.{left_short, left_damaged, left_many, left_beyond, left_last, left_full, scan_begun, scan_refused, scan_given, scan_on}
 use Rattle.plate_file.proofs.scan_blocks.Goals as goal
 
 whole : (n i : ℕ) (file : List ℕ) → n ≡ length file / 512 → i < n → (512 * i ≤ length file) × (512 ≤ length file - 512 * i)

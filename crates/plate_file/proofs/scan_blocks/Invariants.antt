@@ -1,8 +1,8 @@
 -- The first i blocks are full ones: what is left tells the answer.
 use Rattle.std.proofs.Common.{◌≡◌, ◌*◌, ◌≤◌}
-use Rattle.rules.specs.HandedOver.{most_path_points}
+use Rattle.rules.specs.Limits.{most_path_points}
 use Rattle.file_format.specs.PlateFile.{read_file}
-use Rattle.file_laws.specs.Counting.{counted, more, left}
+use Rattle.file_laws.specs.PointCounts.{counted, more, left}
 use Rattle.plate_file.proofs.scan_blocks.Given as goal
 
 abbrev pub invariant-loop-i : goal.invariant-loop-i

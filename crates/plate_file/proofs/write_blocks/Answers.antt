@@ -1,7 +1,7 @@
 -- Each turn writes one more block, and then the file is whole.
 use Rattle.std.proofs.Common.{◌≡◌, ◌∙◌, ◌+◌, ◌-◌, ◌*◌, refl, rules, arith}
 use Rattle.std.proofs.lemmas.List.{take_rest}
-use Rattle.file_laws.specs.Writing.{none_written}
+use Rattle.file_laws.specs.WrittenFile.{none_written}
 use Rattle.file_laws.specs.Parts.{write_part, parts_written}
 use Rattle.plate_file.proofs.write_blocks.Goals as goal
 

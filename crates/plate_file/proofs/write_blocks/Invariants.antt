@@ -1,6 +1,6 @@
 -- The first i blocks are written.
 use Rattle.std.proofs.Common.{◌≡◌, length}
-use Rattle.file_laws.specs.Writing.{written_to}
+use Rattle.file_laws.specs.WrittenFile.{written_to}
 use Rattle.plate_file.proofs.write_blocks.Given as goal
 
 abbrev pub invariant-loop-i : goal.invariant-loop-i

@@ -6,10 +6,10 @@ use Rattle.std.proofs.lemmas.Result.{err_from_is_err_and}
 use Rattle.rules.specs.Tools.{pick}
 use Rattle.rules.specs.HandedOver.{answer_of, gives, refuses, number_of, place_of, refusal, plate_limit, first_off, refused_by, out_of_range, off_the_plate}
 use Rattle.rules.specs.declared.Refusal.{Refusal}
-use Rattle.path.specs.Rows.{refused, not_given, rows_give}
-use Rattle.path.specs.Lists.{all_give}
-use Rattle.path.specs.FiniteDistances.{OnPlate}
-use Rattle.path.specs.Accepted.{first_off_lem}
+use Rattle.plate_laws.specs.Rows.{refused, not_given, rows_give}
+use Rattle.plate_laws.specs.Lists.{all_give}
+use Rattle.plate_laws.specs.FiniteDistances.{OnPlate}
+use Rattle.plate_laws.specs.Accepted.{first_off_lem}
 use Rattle.little_endian.specs.Numbers.{NoNan}
 use Rattle.file_format.specs.PlateFile.{write_file}
 use Rattle.file_laws.specs.Lengths.{file_length}

@@ -1,15 +1,13 @@
 -- `point::distance` meets its contract.
 use mathlib.Core.Path.{◌≡◌, sym, subst, ap, ◌∙◌}
-use mathlib.Core.Bool.{Bool, true, false, not}
+use mathlib.Core.Bool.{Bool, false, not}
 use lib.Dec.{T}
 use lib.Ieee.{Float, binary64}
 use lib.Ieee.Scale.{finite}
+use Rattle.std.proofs.lemmas.Float.{T_from_true}
 use Rattle.rules.specs.Distances.{sqrt, distance}
 use Rattle.point.specs.Squares.{unsigned, distance_squared_unsigned, not_finite_root, finite_unsigned}
 use Rattle.point.proofs.distance.Goals as goal
-
-is_true : (b : Bool) → b ≡ true → T b
-is_true b h = rw h tt
 
 is_false : (b : Bool) → b ≡ false → T (not b)
 is_false b h = rw h tt
@@ -24,7 +22,7 @@ returns-then-not-is_finite c =
 pub square_root-requires : goal.square_root-requires
 square_root-requires c =
     let d = c.distance_squared-squared in
-    finite_unsigned d.result (is_true (finite d.result) (sym c.if-not-is_finite.ensures)) (subst (λ (x : Float). T (unsigned x)) (sym d.ensures) (distance_squared_unsigned c.args.p c.args.q))
+    finite_unsigned d.result (T_from_true _ (sym c.if-not-is_finite.ensures)) (subst (λ (x : Float). T (unsigned x)) (sym d.ensures) (distance_squared_unsigned c.args.p c.args.q))
 
 pub returns : goal.returns
 unfolding distance

@@ -6,7 +6,7 @@ use Rattle.std.proofs.lemmas.Result.{err_from_is_err_and}
 use Rattle.rules.specs.HandedOver.{answer_of, gives, distance_limit, out_of_range}
 use Rattle.rules.specs.Calls.{distance_call}
 use Rattle.rules.specs.Distances.{distance_squared, distance}
-use Rattle.path.specs.Rows.{rows_give, rows_pass, refusal_refuses}
+use Rattle.plate_laws.specs.Rows.{rows_give, rows_pass, refusal_refuses}
 use Rattle.point.proofs.distance_call.Goals as goal
 
 pub returns-in_err-check_range : goal.returns-in_err-check_range

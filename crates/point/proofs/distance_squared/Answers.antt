@@ -4,13 +4,11 @@ use mathlib.Core.Bool.{Bool, true, false, not, ◌&&◌}
 use lib.Dec.{T}
 use lib.Ieee.{Float, binary64, mul, sub}
 use lib.Ieee.Scale.{finite}
+use Rattle.std.proofs.lemmas.Float.{T_from_true}
 use Rattle.rules.specs.Distances.{distance_squared}
 use Rattle.point.specs.Squares.{mul_unsigned, not_finite_sum, finite_unsigned}
 use Rattle.point.proofs.distance_squared.Goals as goal
 use Rattle.point.proofs.distance_squared.Goals.{then-not-is_finite-via-then-not-is_finite, then-not-is_finite-via-else-not-is_finite+then-not-is_finite-2}
-
-is_true : (b : Bool) → b ≡ true → T b
-is_true b h = rw h tt
 
 first_not : (x z : Float) → finite x ≡ false → T (not (finite x && finite z))
 first_not x z h = rw h tt
@@ -35,10 +33,11 @@ returns-then-not-is_finite c =
 pub square_plus-requires : goal.square_plus-requires
 square_plus-requires c =
     let dx = sub binary64 c.args.p.x c.args.q.x in
-    let dy = sub binary64 c.args.p.y c.args.q.y in (
-      is_true (finite dx) (sym c.if-not-is_finite.ensures),
-      finite_unsigned (mul binary64 dy dy) (is_true (finite (mul binary64 dy dy)) (sym c.if-not-is_finite-2.ensures)) (mul_unsigned binary64 dy),
-    )
+    let dy = sub binary64 c.args.p.y c.args.q.y in
+    record {
+      finite = T_from_true _ (sym c.if-not-is_finite.ensures);
+      plus = finite_unsigned (mul binary64 dy dy) (T_from_true _ (sym c.if-not-is_finite-2.ensures)) (mul_unsigned binary64 dy);
+    }
 
 pub returns : goal.returns
 unfolding distance_squared

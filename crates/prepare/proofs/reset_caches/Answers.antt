@@ -10,10 +10,10 @@ loop-j-init c = resetting_start _ _ _ _
 pub overflow_add-first : goal.overflow_add-first
 overflow_add-first c =
     let p = c.requires in
-    omega (arith, resetting_room _ _ _ _ p.0 p.1 p.2 _ _ _ _ c.loop-j.invariant c.loop-j-test.true, p.3)
+    omega (arith, resetting_room p.laid p.contours p.room c.loop-j.invariant c.loop-j-test.true, p.few)
 
 pub loop-j-preserved : goal.loop-j-preserved
 unfolding of_bits
 loop-j-preserved c =
     let p = c.requires in
-    resetting_step _ _ _ _ p.0 p.1 p.2 _ _ _ _ c.loop-j.invariant c.loop-j-test.true
+    resetting_step p.laid p.contours p.room c.loop-j.invariant c.loop-j-test.true

@@ -1,18 +1,23 @@
 -- All vertices below the highest were landed on, or one was not.
 use Rattle.std.proofs.Common.{length, refl, arith}
 use Rattle.contour_recovery.specs.ContourRecovery.{recovery_answer, landed}
-use Rattle.recovery.specs.Counted.{count_none}
+use Rattle.recovery.specs.VertexPlaces.{count_none}
 use Rattle.recovery_laws.specs.Landed.{count_small}
 use Rattle.recovery_laws.specs.Failing.{first_pass}
 use Rattle.recovery.specs.Rows.{missing}
 use Rattle.recovery.proofs.count_vertices.Goals as goal
 
-pub first_missing-requires : goal.first_missing-requires
-first_missing-requires c =
+pub first_missing-requires-clause-most : goal.first_missing-requires-clause-most
+first_missing-requires-clause-most c =
     let vs = c.args.landings.now.vertices.now in
     let ms = c.args.marks.now in
-    let e = c.vertex_count-count.ensures in
-    (omega (arith, e, count_small ms vs (length vs) (λ j l. c.requires.within j)), λ h. count_none ms vs (length vs) (omega (arith, e, h)))
+    omega (arith, c.vertex_count-count.ensures, count_small ms vs (length vs) (λ j l. c.requires.within j))
+
+pub first_missing-requires-clause-some : goal.first_missing-requires-clause-some
+first_missing-requires-clause-some c =
+    let vs = c.args.landings.now.vertices.now in
+    let ms = c.args.marks.now in
+    λ h. count_none ms vs (length vs) (omega (arith, c.vertex_count-count.ensures, h))
 
 pub returns-in-Some-clause-refused : goal.returns-in-Some-clause-refused
 unfolding recovery_answer

@@ -1,7 +1,7 @@
 -- The mark of path point i cuts a segment that has a flag, or it doesn't.
 use Rattle.std.proofs.Common.{◌≡◌, ◌*◌, ◌/◌, ◌≤◌, length, suc, arith}
-use Rattle.rules.specs.RetraceAndMarks.{kind_at, reference_at}
-use Rattle.recovery_parts.specs.Flagging.{flags_none, flags_kept, flags_beyond, flags_cut, flags_all}
+use Rattle.rules.specs.Marks.{kind_at, reference_at}
+use Rattle.recovery_parts.specs.CutFlags.{flags_none, flags_kept, flags_beyond, flags_cut, flags_all}
 use Rattle.recovery_parts.proofs.flag_cuts.Goals as goal
 use Rattle.recovery_parts.proofs.flag_cuts.Goals.{then-marks-i-eq-CUT+then-r-flags, else-marks-i-eq-CUT, else-marks-i-eq-CUT-via-then-marks-i-eq-CUT+else-r-flags, else-marks-i-eq-CUT-via-else-marks-i-eq-CUT}
 

@@ -1,7 +1,7 @@
 -- The vertices landed on before path point i have their points.
 use Rattle.std.proofs.Common.{length}
 use Rattle.contour_recovery.specs.ContourRecovery.{vertex_count}
-use Rattle.recovery_parts.specs.Placing.{PutTo}
+use Rattle.recovery_parts.specs.PointPlaces.{PutTo}
 use Rattle.recovery_parts.proofs.put_points.Given as goal
 
 abbrev pub invariant-loop-i : goal.invariant-loop-i

@@ -1,7 +1,7 @@
 -- Path point i lands on its vertex, or it doesn't.
 use Rattle.std.proofs.Common.{refl, sym, ◌∙◌, arith}
 use Rattle.contour_recovery.specs.ContourRecovery.{vertex_count}
-use Rattle.recovery_parts.specs.Landing.{count_landing, count_passing}
+use Rattle.recovery_parts.specs.VertexCounts.{count_landing, count_passing}
 use Rattle.recovery_parts.proofs.vertex_count.Goals as goal
 use Rattle.recovery_parts.proofs.vertex_count.Goals.{then-lands, else-lands}
 

@@ -31,7 +31,7 @@ overflow_cast-result-2 c =
     let m = length a.flags.now in
     let runs = flagged_recovered a.marks.now c.flag_cuts.new.flags m c.flag_cuts.ensures.same c.flag_cuts.ensures.flags in
     let counted = c.count_contours-contours.ensures ∙ ap length runs in
-    omega (arith, counted, c.requires.count.1, runs_most (is_cut a.marks.now) 0 m)
+    omega (arith, counted, c.requires.most, runs_most (is_cut a.marks.now) 0 m)
 
 pub returns : goal.returns
 unfolding roomy recovery_answer written
@@ -44,6 +44,6 @@ returns c =
     let fit = all_fit a.path.now a.marks.now a.vertices.now n m (length a.points.now) (length a.lengths.now) c.if-points-count.false (omega (arith, c.if-lengths-contours.false, counted)) in
     rw (fit, counted) (
       refl,
-      rw c.requires.count.0 c.put_points.ensures,
+      rw c.requires.count c.put_points.ensures,
       c.put_lengths.ensures ∙ ap (λ (ns : List ℕ). over ns a.lengths.now) runs,
     )

@@ -1,6 +1,6 @@
 -- The struct tells what `told` says.
 use Rattle.std.specs.Float.Ieee.{of_bits}
-use Rattle.results.proofs.Tellings.{distance_told}
+use Rattle.results.proofs.AnswerStructs.{distance_told}
 use Rattle.results.proofs.distance_result.Goals as goal
 
 pub returns : goal.returns

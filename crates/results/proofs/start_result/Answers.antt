@@ -1,5 +1,5 @@
 -- The struct tells what `told` says.
-use Rattle.results.proofs.Tellings.{start_told}
+use Rattle.results.proofs.AnswerStructs.{start_told}
 use Rattle.results.proofs.start_result.Goals as goal
 
 pub returns : goal.returns

@@ -1,7 +1,7 @@
 -- The refusal's number and place.
 use Rattle.std.proofs.Common.{refl}
 use Rattle.rules.specs.HandedOver.{answer_of}
-use Rattle.path.specs.Rows.{refused}
+use Rattle.plate_laws.specs.Rows.{refused}
 use Rattle.results.specs.Results.{told}
 use Rattle.results.proofs.told.Goals as goal
 

@@ -8,11 +8,11 @@ use Rattle.std.specs.Result.{result_or}
 use Rattle.std.proofs.lemmas.Result.{err_from_is_err_and}
 use Rattle.rules.specs.Tools.{sum}
 use Rattle.rules.specs.HandedOver.{plate, plate_of, gives, number_of, place_of, refusal, refused_by, plate_rows, retrace_work, answer_of, retrace_room}
-use Rattle.rules.specs.RetraceAndMarks.{retrace}
-use Rattle.path.specs.Accepted.{Accepted, input_gives}
-use Rattle.path.specs.Start.{AllTakePart, layered_part}
+use Rattle.rules.specs.Retrace.{retrace}
+use Rattle.plate_laws.specs.Accepted.{Accepted, input_gives}
+use Rattle.plate_laws.specs.Start.{AllTakePart, layered_part}
 use Rattle.path_points.specs.Wrote.{Wrote}
-use Rattle.joining.specs.Joining.{path_count}
+use Rattle.joining.specs.JoinState.{path_count}
 use Rattle.retrace.proofs.Outcome.{whole, whole_refused, not_full, met_refused, met_short, met_short_distances, met_full, met_whole, counted, walked}
 use Rattle.retrace.proofs.retrace_call.Goals as goal
 use Rattle.retrace.proofs.retrace_call.Goals.{After-min-room, After-work_needed, Else-work-work_needed, After-join_retrace-joined}
@@ -68,9 +68,7 @@ returns-in_err-checked c =
     let p = plate_of a.input.now in
     let q = err_from_is_err_and c.from_residual.result c.from_residual.ensures.1 in
     let h = c.in_err-checked.ensures.answer in
-    rw (q.1, q.2)
-    (whole_refused p a.path.now a.marks.now a.work.now a.distances.now _ _ _ _ _ _ (not_full p _ _ h)
-    (met_refused p a.path.now a.marks.now a.work.now a.distances.now _ _ h))
+    rw (q.1, q.2) (whole_refused (not_full p _ _ h) (met_refused p a.path.now a.marks.now a.work.now a.distances.now _ _ h))
 
 pub returns-then-work-work_needed : goal.returns-then-work-work_needed
 unfolding answer_of retrace_work number_of place_of refusal plate
@@ -78,7 +76,7 @@ returns-then-work-work_needed c =
     let a = c.args in
     let p = plate_of a.input.now in
     let r = (goal.at.returns-then-work-work_needed c).After-min-room in
-    whole_refused p a.path.now a.marks.now a.work.now a.distances.now 5 0 _ _ _ _ (omega arith)
+    whole_refused {n = 5} (omega arith)
     (met_short p a.path.now a.marks.now a.work.now a.distances.now _ _ (sound r)
     (omega (arith, c.if-work-work_needed.true, c.work_needed.ensures.needed, room_is r, (accepted r).counted)))
 
@@ -88,7 +86,7 @@ returns-then-distances-input c =
     let a = c.args in
     let p = plate_of a.input.now in
     let at = goal.at.returns-then-distances-input c in
-    whole_refused p a.path.now a.marks.now a.work.now a.distances.now 5 1 _ _ _ _ (omega arith)
+    whole_refused {n = 5} (omega arith)
     (met_short_distances p a.path.now a.marks.now a.work.now a.distances.now _ _
     (sound at.After-min-room) (enough at.Else-work-work_needed) c.if-distances-input.true)
 
@@ -103,10 +101,10 @@ returns-in_err-n c =
     let q = err_from_is_err_and c.from_residual-in_err-n.result c.from_residual-in_err-n.ensures.1 in
     let e = not_joined c.join_retrace-joined.result _ _ c.in_err-n.ensures in
     rw (q.1, q.2, e.2, r)
-    (whole i.points.now i.lengths.now i.layers.now i.width i.height i.strategy c.work_needed.ensures.floats a.path.now a.marks.now a.work.now a.distances.now _ _ _ _ _
+    (whole i.points.now i.lengths.now i.layers.now i.width i.height i.strategy c.work_needed.ensures.floats
     (met_full p a.path.now a.marks.now a.work.now a.distances.now _ _
-    (sound at.After-min-room) (enough at.Else-work-work_needed) c.if-distances-input.false _ _ _ _ _ (rw e.1 at (wrote at.After-join_retrace-joined))
-    (omega arith)))
+    (sound at.After-min-room) (enough at.Else-work-work_needed) c.if-distances-input.false c.join_retrace-joined.new.work c.join_retrace-joined.new.distances
+    (rw e.1 at (wrote at.After-join_retrace-joined)) (omega arith)))
 
 pub totals-requires : goal.totals-requires
 unfolding plate
@@ -117,11 +115,12 @@ totals-requires c =
     let e = joined c.join_retrace-joined.result _ _ c.in_ok-n.ensures in
     let n = rw e at c.join_retrace-joined.ensures.fits in
     let w = rw e at (wrote at.After-join_retrace-joined) in
-    let has = enough at.Else-work-work_needed in (
-      walked p _ _ _ _ _ _ w (omega (arith, n, r)) (accepted at.After-min-room) (part at.After-min-room),
-      omega (arith, n),
-      omega (arith, n, r, has),
-    )
+    let has = enough at.Else-work-work_needed in
+    record {
+      walked = walked p w (omega (arith, n, r)) (accepted at.After-min-room) (part at.After-min-room);
+      few = omega (arith, n);
+      room = omega (arith, n, r, has);
+    }
 
 pub returns : goal.returns
 unfolding answer_of retrace_work plate
@@ -133,9 +132,8 @@ returns c =
     let r = room_is at.After-min-room in
     let e = joined c.join_retrace-joined.result _ _ c.in_ok-n.ensures in
     let n = rw e at c.join_retrace-joined.ensures.fits in
-    let w = rw e at (wrote at.After-join_retrace-joined) in
-    whole i.points.now i.lengths.now i.layers.now i.width i.height i.strategy c.work_needed.ensures.floats a.path.now a.marks.now a.work.now a.distances.now _ _ _ _ _
+    let steps = rw e at (wrote at.After-join_retrace-joined) in
+    whole i.points.now i.lengths.now i.layers.now i.width i.height i.strategy c.work_needed.ensures.floats
     (met_whole p a.path.now a.marks.now a.work.now a.distances.now _ _
-    (sound at.After-min-room) (enough at.Else-work-work_needed) c.if-distances-input.false _ _ _ _ _ w (omega (arith, n, r))
-    c.totals.result
-    (counted p _ _ _ _ _ _ w (omega (arith, n, r)) c.totals.result c.totals.ensures))
+    (sound at.After-min-room) (enough at.Else-work-work_needed) c.if-distances-input.false c.totals.new.kept c.join_retrace-joined.new.distances
+    steps (omega (arith, n, r)) c.totals.result (counted p steps (omega (arith, n, r)) c.totals.result c.totals.ensures))

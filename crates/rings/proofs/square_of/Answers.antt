@@ -6,7 +6,8 @@ use Rattle.rings.proofs.square_of.Goals as goal
 
 pub returns : goal.returns
 unfolding square_of square
-returns c = (
-  rw (c.saturating_sub.ensures, c.min.ensures, c.saturating_sub-2.ensures, c.min-2.ensures),
-  record { wide = omega arith; last_col = omega arith; high = omega arith; last_row = omega arith },
-)
+returns c =
+    record {
+      square = rw (c.saturating_sub.ensures, c.min.ensures, c.saturating_sub-2.ensures, c.min-2.ensures);
+      inside = record { wide = omega arith; last_col = omega arith; high = omega arith; last_row = omega arith };
+    }

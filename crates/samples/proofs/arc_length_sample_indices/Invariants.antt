@@ -1,5 +1,5 @@
 -- The walk along the contour so far.
-use Rattle.samples.proofs.Sampling.{Walk}
+use Rattle.samples.proofs.SampleWalk.{Walk}
 use Rattle.samples.proofs.arc_length_sample_indices.Given as goal
 
 abbrev pub invariant-loop-i : goal.invariant-loop-i

@@ -1,6 +1,6 @@
 -- The samples from vertex v on are chained.
-use Rattle.layout.specs.Parts.{from, KeptBelow, KeptFrom}
-use Rattle.samples.specs.Framed.{ChainedBy}
+use Rattle.work_layout.specs.Parts.{from, KeptBelow, KeptFrom}
+use Rattle.samples.specs.FrameSamples.{ChainedBy}
 use Rattle.samples.proofs.chain_samples.Given as goal
 
 abbrev pub invariant-loop-v : goal.invariant-loop-v

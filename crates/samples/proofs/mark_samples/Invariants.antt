@@ -1,6 +1,6 @@
 -- The contours that are not left are marked.
-use Rattle.start.specs.Left.{contours_left}
-use Rattle.samples.proofs.Marking.{SoFar}
+use Rattle.contours.specs.ContoursLeft.{contours_left}
+use Rattle.samples.proofs.ContourMarks.{SoFar}
 use Rattle.samples.proofs.mark_samples.Given as goal
 
 abbrev pub invariant-loop-c : goal.invariant-loop-c

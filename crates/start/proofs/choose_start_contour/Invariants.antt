@@ -3,9 +3,9 @@ use Rattle.std.proofs.Common.{◌≡◌, length}
 use Rattle.rules.specs.Tools.{sum}
 use Rattle.rules.specs.HandedOver.{plate_of}
 use Rattle.rules.specs.Start.{start}
-use Rattle.path.specs.Lists.{All}
-use Rattle.start.specs.Oriented.{lead_of, LeadIn}
-use Rattle.start.specs.Left.{contours_left, Within}
+use Rattle.plate_laws.specs.Lists.{All}
+use Rattle.start.specs.OrientedContours.{lead_of, LeadIn}
+use Rattle.contours.specs.ContoursLeft.{contours_left, WithinCounts}
 use Rattle.start.proofs.Ends.{led}
 use Rattle.start.proofs.choose_start_contour.Given as goal
 
@@ -14,6 +14,6 @@ invariant-loop-c l = record {
   can : (goal.iterator-loop-c).can_next l.c-iterator;
   ends : (goal.iterator-loop-c).is_finite l.c-iterator;
   inside : LeadIn (length l.input.layers.now) l.lead;
-  within : All (Within (length l.input.lengths.now) (sum l.input.lengths.now)) (contours_left l.c-iterator);
+  within : All (WithinCounts (length l.input.lengths.now) (sum l.input.lengths.now)) (contours_left l.c-iterator);
   leads : led (plate_of l.input) l.from l.input.strategy (lead_of l.lead) (contours_left l.c-iterator) ≡ start (plate_of l.input);
 }

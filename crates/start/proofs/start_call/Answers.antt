@@ -6,9 +6,10 @@ use Rattle.rules.specs.Calls.{start_or, start_call}
 use Rattle.rules.specs.Start.{start}
 use Rattle.rules.specs.declared.Input.{Input}
 use Rattle.rules.specs.declared.Refusal.TheVariants.{Blank}
-use Rattle.path.specs.Rows.{rows_give, rows_pass, refusal_refuses}
-use Rattle.start.specs.Oriented.{contour_of, oriented_of, lead_of}
-use Rattle.start.specs.declared.Oriented.{Oriented}
+use Rattle.plate_laws.specs.Rows.{rows_give, rows_pass, refusal_refuses}
+use Rattle.start.specs.OrientedContours.{oriented_of, lead_of}
+use Rattle.contours.specs.ContourOf.{contour_of}
+use Rattle.start.specs.declared.OrientedContour.{OrientedContour}
 use Rattle.start.proofs.start_call.Goals as goal
 use Rattle.start.proofs.start_call.Goals.{In_ok-checked}
 
@@ -19,7 +20,7 @@ returns-in_err-checked c =
     rw (p.1, p.2) (refusal_refuses (plate_rows (plate_of c.args.input.now)) _ _ _ c.in_err-checked.ensures.answer)
 
 -- what is led by is the start's, of what was handed over
-behind : (c : In_ok-checked) (lead : Option Oriented) → lead_of lead ≡ start (plate_of c.in_ok-checked.checked.input) →
+behind : (c : In_ok-checked) (lead : Option OrientedContour) → lead_of lead ≡ start (plate_of c.in_ok-checked.checked.input) →
     start_or (lead_of lead) ≡ start_call (plate_of c.args.input.now)
 unfolding answer_of start_call
 behind c lead e =

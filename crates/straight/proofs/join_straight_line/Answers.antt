@@ -1,9 +1,9 @@
 -- The words of an order are readable, and their runs are its vertices.
 use Rattle.std.proofs.Common.{List, ℕ, ◌*◌, ◌/◌, length, take, ap, ◌∙◌}
 use Rattle.rules.specs.HandedOver.{plate, plate_of, over}
-use Rattle.rules.specs.RetraceAndMarks.{coordinates}
+use Rattle.rules.specs.Marks.{coordinates}
 use Rattle.straight.specs.Runs.{runs}
-use Rattle.straight.proofs.Ordered.{order_runs, order_readable}
+use Rattle.straight.proofs.OrderRuns.{order_runs, order_readable}
 use Rattle.straight.proofs.join_straight_line.Goals as goal
 
 pub write_contours-requires : goal.write_contours-requires

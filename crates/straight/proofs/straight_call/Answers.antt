@@ -2,14 +2,14 @@
 use Rattle.std.proofs.Common.{◌≡◌, List, ℕ, ◌*◌, ◌/◌, ◌++◌, ◌≤◌, Float, length, take, drop, sym, ap, ap₂, ◌∙◌, arith, length-take}
 use Rattle.std.proofs.lemmas.Result.{err_from_is_err_and}
 use Rattle.rules.specs.HandedOver.{Plate, plate, plate_of, plate_rows, refused_by, gives, number_of, place_of, refusal, answer_of, straight_room, over}
-use Rattle.rules.specs.RetraceAndMarks.{coordinates}
+use Rattle.rules.specs.Marks.{coordinates}
 use Rattle.rules.specs.OrderAndStraight.{order, straight}
 use Rattle.rules.specs.Calls.{straight_call}
 use Rattle.rules.specs.declared.Input.{Input}
-use Rattle.path.specs.Accepted.{input_gives}
-use Rattle.path.specs.Start.{layered_part}
-use Rattle.path.specs.Ordering.{straight_length}
-use Rattle.path.specs.Slices.{coordinates_length}
+use Rattle.plate_laws.specs.Accepted.{input_gives}
+use Rattle.plate_laws.specs.Start.{layered_part}
+use Rattle.plate_laws.specs.Ordering.{straight_length}
+use Rattle.plate_laws.specs.Slices.{coordinates_length}
 use Rattle.slices.specs.Outcome.{met_refused, met_short, met_full, met_whole}
 use Rattle.slices.specs.Over.{over_rest}
 use Rattle.straight.proofs.straight_call.Goals as goal
@@ -46,13 +46,13 @@ unfolding answer_of straight_call
 returns-in_err-checked c =
     let e = err_from_is_err_and c.from_residual.result c.from_residual.ensures.1 in
     let m = met_refused (plate_of c.args.input.now) (length c.args.work.now) _ _ _ c.args.path.now c.args.work.now _ _ c.in_err-checked.ensures.answer in
-    rw (e.1, e.2) (record { answer = m.0; path = m.1; work = m.2 })
+    rw (e.1, e.2) (record { answer = m.answer; path = m.written; work = m.kept })
 
 pub returns-then-work-input : goal.returns-then-work-input
 unfolding answer_of straight_call plate number_of place_of refusal
 returns-then-work-input c =
     let m = met_short (plate_of c.args.input.now) (length c.args.work.now) _ _ _ c.args.path.now c.args.work.now _ _ (sym c.in_ok-checked.ensures.answer) c.if-work-input.true in
-    record { answer = m.0; path = m.1; work = m.2 }
+    record { answer = m.answer; path = m.written; work = m.kept }
 
 pub returns-then-room-count : goal.returns-then-room-count
 unfolding answer_of straight_call straight_room plate number_of place_of refusal
@@ -62,7 +62,7 @@ returns-then-room-count c =
     let e = sym c.in_ok-checked.ensures.answer in
     let m = met_full p (length c.args.work.now) _ (length vs) (coordinates c.args.input.now.points.now vs) c.args.path.now c.args.work.now _ _
     e c.if-work-input.false _ _ c.min-room.ensures (sym (points_are p _ _ e)) _ (written (goal.at.returns-then-room-count c).After-join_straight_line) _ c.if-room-count.true in
-    record { answer = m.0; path = m.1; work = m.2 }
+    record { answer = m.answer; path = m.written; work = m.kept }
 
 pub returns : goal.returns
 unfolding answer_of straight_call straight_room plate
@@ -73,4 +73,4 @@ returns c =
     let m = met_whole p (length c.args.work.now) _ (length vs) (coordinates c.args.input.now.points.now vs) c.args.path.now c.args.work.now _ _
     e c.if-work-input.false _ _ c.min-room.ensures (sym (points_are p _ _ e)) _ (written (goal.at.returns c).After-join_straight_line) _
     (coordinates_length c.args.input.now.points.now vs) c.if-room-count.false in
-    record { answer = m.0; path = m.1; work = m.2 }
+    record { answer = m.answer; path = m.written; work = m.kept }

@@ -2,11 +2,11 @@
 use Rattle.std.proofs.Common.{◌≡◌, List, ℕ, ◌/◌, Float, length, take, get_or, refl, sym, ap, ◌∙◌}
 use Rattle.std.proofs.Math.Seq.{take_all}
 use Rattle.rules.specs.HandedOver.{over}
-use Rattle.rules.specs.RetraceAndMarks.{coordinates}
-use Rattle.path.specs.Ordering.{run_length}
+use Rattle.rules.specs.Marks.{coordinates}
+use Rattle.plate_laws.specs.Ordering.{run_length}
 use Rattle.slices.specs.Pairs.{coordinates_take}
 use Rattle.straight.specs.Runs.{run, run_of, runs}
-use Rattle.straight.proofs.Drawing.{drawn_none, drawn_more, runs_next}
+use Rattle.straight.proofs.PathSoFar.{drawn_none, drawn_more, runs_next}
 use Rattle.straight.proofs.write_contours.Goals as goal
 
 pub loop-word-init : goal.loop-word-init

@@ -1,6 +1,6 @@
 -- The call never gives refusal 12, and its answer is told as a struct.
 use Rattle.std.proofs.Common.{◌∙◌, sym, ap, subst}
-use Rattle.path.specs.Rows.{Other}
+use Rattle.plate_laws.specs.Rows.{Other}
 use Rattle.results.specs.Results.{distance_result}
 use Rattle.twillharbor.specs.Arguments.{point_of}
 use Rattle.twillharbor.specs.Refusals.{distance_other}

@@ -1,6 +1,6 @@
 -- The call never gives refusal 12.
 use Rattle.std.proofs.Common.{sym, subst}
-use Rattle.path.specs.Rows.{Other}
+use Rattle.plate_laws.specs.Rows.{Other}
 use Rattle.twillharbor.specs.Refusals.{read_other}
 use Rattle.twillharbor.proofs.twillharbor_read_file.Goals as goal
 

@@ -9,4 +9,5 @@ overflow_add-result c =
 
 pub returns : goal.returns
 returns c =
-    shift_is c.args.w.hi c.args.w.lo c.args.d (omega arith) (omega arith) (le_of_lt c.requires) c.sticky_bit.result c.sticky_bit.ensures.0
+    let s = shift_is c.args.w.hi c.args.w.lo c.args.d (omega arith) (omega arith) (le_of_lt c.requires) c.sticky_bit.result c.sticky_bit.ensures.bit in
+    record { value = s.value; sticky = s.sticky }

@@ -6,4 +6,4 @@ use Rattle.wide.proofs.square.Goals as goal
 pub returns : goal.returns
 returns c =
     let s = c.args.s in
-    (square_is (s / 4294967296) (s % 4294967296) ∙ ap (λ (x : ℕ). x * x) (div-add-mod' s 4294967296), omega arith)
+    record { value = square_is (s / 4294967296) (s % 4294967296) ∙ ap (λ (x : ℕ). x * x) (div-add-mod' s 4294967296); low = omega arith }

@@ -26,7 +26,7 @@ use twillharbor::{Point, Size};
 
 use super::{
     PATH_FILL, Words, damaged_copy, fits, fitting_damages, home, in_layers, measured, plate_of,
-    refused_plates, touching, write_plate,
+    refused_plates, told_apart, touching, write_plate,
 };
 use crate::layers;
 use crate::lent::Number;
@@ -67,7 +67,8 @@ struct Row {
 /// then two of each kind of plate but those of `passed_over`, in layers, but one of each kind whose
 /// contours meet, the same number of each damage, and one plate by hand on which the search passes
 /// over a nearer point. Then come the rows of Home: plates that the parked point decides, and one
-/// of each kind of `plates`. Last come plates by hand for their lengths.
+/// of each kind of `plates`. Last come plates by hand for their lengths, and plates that tell rules
+/// apart.
 pub fn retraces() -> String {
     let rows = rows();
     let mut words = Words::default();
@@ -89,7 +90,15 @@ fn rows() -> Vec<Row> {
     rows.push(fitted(passed_over(), Inside, 2 * points, 2 * points));
     rows.extend(home_rows());
     rows.extend(measured_rows());
+    rows.extend(told_apart_rows());
     rows
+}
+
+/// All fit.
+fn told_apart_rows() -> Vec<Row> {
+    let random = &mut Random::new(27);
+    let plates = told_apart::retraced().into_iter();
+    plates.map(|(plate, strategy)| row(plate, strategy, 0, random)).collect()
 }
 
 /// All fit.

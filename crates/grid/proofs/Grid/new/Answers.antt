@@ -4,13 +4,13 @@ use lib.Ieee.{of_bits}
 use Rattle.rules.specs.GridAndNearest.{grid_of}
 use Rattle.rules.specs.HandedOver.{IsF64}
 use Rattle.rules.specs.declared.BoundingBox.{BoundingBox}
-use Rattle.bounds.specs.Boxes.{Sound}
-use Rattle.grid.specs.Sane.{Sane}
+use Rattle.rounding_errors.specs.Boxes.{SoundBox}
+use Rattle.grid.specs.SaneGrid.{SaneGrid}
 use Rattle.grid.specs.PlateGrid.{sane_of}
 use Rattle.grid.proofs.Grid.new.Goals as goal
 
 -- the parameter's fields are f64
-sane : (b : BoundingBox) → IsF64 b.min_x × (IsF64 b.min_y × (IsF64 b.max_x × (IsF64 b.max_y × Unit {0}))) → Sound b → Sane (grid_of b)
+sane : (b : BoundingBox) → IsF64 b.min_x × (IsF64 b.min_y × (IsF64 b.max_x × (IsF64 b.max_y × Unit {0}))) → SoundBox b → SaneGrid (grid_of b)
 sane b h s = sane_of b (record { left = h.0; right = h.1.1.0; bottom = h.1.0; top = h.1.1.1.0 }) s
 
 pub cells_along-requires : goal.cells_along-requires

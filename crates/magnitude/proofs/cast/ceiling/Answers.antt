@@ -2,7 +2,7 @@
 use Rattle.std.specs.Prelude.{◌≡◌, ◌+◌}
 use Rattle.std.proofs.Common.{◌∙◌, sym, inl, inr, le_of_eq, eq-or-lt_of_le, arith}
 use Rattle.std.proofs.Math.Nat.{le-pred_of_lt}
-use Rattle.rounding.specs.Ceiling.{rounded_up, rounded_most, not_rounded}
+use Rattle.rounding.specs.CeilingCast.{rounded_up, rounded_most, not_rounded}
 use Rattle.magnitude.proofs.cast.ceiling.Goals as goal
 
 pub returns-then-from-x : goal.returns-then-from-x

@@ -4,10 +4,10 @@ use Rattle.std.proofs.Math.Option.{some}
 use Rattle.rules.specs.Tools.{leads}
 use Rattle.rules.specs.OrderAndStraight.{nearer_end}
 use Rattle.rules.specs.Start.{Oriented}
-use Rattle.start.specs.Oriented.{contour_of}
-use Rattle.start.specs.declared.Contour.{Contour}
-use Rattle.packed_contours.specs.Packed.{packed}
-use Rattle.optimize.specs.Choice.{choice_of, Stands}
+use Rattle.contours.specs.ContourOf.{contour_of}
+use Rattle.contours.specs.declared.ContourRange.{ContourRange}
+use Rattle.packed_contours.specs.PackedNumbers.{packed}
+use Rattle.optimize.specs.Choice.{choice_of, ChoiceStands}
 use Rattle.optimize.proofs.Choices.{later, lead_lower, lead_alike}
 use Rattle.optimize.proofs.nearest.choice_after.Goals as goal
 
@@ -21,10 +21,10 @@ returns-then-c-lowest-clause-leads c =
     λ p e l k. ap (λ (s : Oriented). some s) (n.nearer p e) ∙ lead_lower p _ _ _ (omega (arith, c.if-c-lowest.true))
 
 pub returns-then-c-lowest-clause-stands : goal.returns-then-c-lowest-clause-stands
-unfolding Stands
+unfolding ChoiceStands
 returns-then-c-lowest-clause-stands c =
     let n = c.nearer_sense-oriented.ensures in
-    λ ws s h e. (omega arith, e ∙ ap (λ (d : Contour). packed (contour_of d)) (sym n.contour))
+    λ ws s h e. (omega arith, e ∙ ap (λ (d : ContourRange). packed (contour_of d)) (sym n.contour))
 
 pub returns-clause-leads : goal.returns-clause-leads
 returns-clause-leads c =

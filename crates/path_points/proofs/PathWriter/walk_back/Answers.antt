@@ -1,7 +1,7 @@
 -- `PathWriter::walk_back`: one place back, and where the walk ends.
 use Rattle.std.proofs.Common.{sym, ◌-◌, arith, Err}
 use Rattle.rules.specs.HandedOver.{at}
-use Rattle.path_points.proofs.Walking.{walking_on, walked_on, walking_full, walking_done}
+use Rattle.path_points.proofs.WalkBack.{walking_on, walked_on, walking_full, walking_done}
 use Rattle.path_points.proofs.PathWriter.walk_back.Goals as goal
 
 pub put-requires : goal.put-requires
@@ -9,13 +9,13 @@ unfolding at
 put-requires c =
     let w = c.loop-place.invariant in
     let on = (w.written.pen.ready (omega (arith, w.written.fits, w.fits))).coords in
-    rw c.point-p.ensures (record { on_plate = (on _ (omega arith), on _ (omega arith)) })
+    rw c.point-p.ensures (record { x = on _ (omega arith); y = on _ (omega arith) })
 
 pub loop-place-preserved : goal.loop-place-preserved
 loop-place-preserved c =
     let put = c.in_ok-put.ensures in
-    walking_on _ _ _ _ c.loop-place.invariant (c.loop-place.place - 1) (omega (arith, c.loop-place-test.true)) (omega (arith, c.loop-place-test.true))
-    c.point-p.result (sym c.point-p.ensures) _ put.adds put.same put.written
+    walking_on c.loop-place.invariant (omega (arith, c.loop-place-test.true)) (omega (arith, c.loop-place-test.true)) (sym c.point-p.ensures) put.adds put.same
+    put.written
 
 pub returns-in_err-put-clause-adds : goal.returns-in_err-put-clause-adds
 returns-in_err-put-clause-adds c xs =
@@ -23,8 +23,8 @@ returns-in_err-put-clause-adds c xs =
     let e = c.in_err-put in
     let j = c.loop-place.place - 1 in
     let before = c.args.self.now in
-    let on = walked_on _ _ _ _ w j (omega (arith, c.loop-place-test.true)) c.point-p.result (sym c.point-p.ensures) c.put.new.self (Err e.field-0.0) e.ensures.adds xs in
-    walking_full before c.put.new.self e.field-0.0 _ j (omega (arith, c.loop-place-test.true)) (omega (arith, w.high)) w.fits xs on c.from_residual.result c.from_residual.ensures.0
+    let on = walked_on w {j = j} (omega (arith, c.loop-place-test.true)) (sym c.point-p.ensures) c.put.new.self (Err e.field-0.0) e.ensures.adds xs in
+    walking_full before c.put.new.self _ {j = j} (omega (arith, c.loop-place-test.true)) (omega (arith, w.high)) w.fits on _ c.from_residual.ensures.0
 
 pub returns-clause-adds : goal.returns-clause-adds
-returns-clause-adds c = walking_done _ _ _ _ c.loop-place.invariant c.loop-place-test.false
+returns-clause-adds c = walking_done c.loop-place.invariant c.loop-place-test.false

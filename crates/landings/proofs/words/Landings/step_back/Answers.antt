@@ -1,6 +1,6 @@
 -- A vertex that is not landed on is noted.
 use Rattle.std.proofs.Common.{refl}
-use Rattle.landings.specs.Read.{read_step_back}
+use Rattle.landings.specs.NextLandings.{read_step_back}
 use Rattle.landings.proofs.words.Landings.step_back.Goals as goal
 
 pub returns-clause-holds : goal.returns-clause-holds

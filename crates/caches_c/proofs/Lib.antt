@@ -1,4 +1,0 @@
-pub mod Passing
-pub mod Preparing
-pub mod Staying
-pub mod Settling

@@ -1,4 +1,0 @@
-pub mod Lined
-pub mod Lining
-pub mod Leader
-pub mod Picks

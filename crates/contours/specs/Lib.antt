@@ -1,0 +1,2 @@
+pub mod ContourOf
+pub mod ContoursLeft

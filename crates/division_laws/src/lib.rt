@@ -1,0 +1,2 @@
+// No code: what each test of the check of a path says, and counting marks.
+#![tactic(auto)]

@@ -1,8 +1,0 @@
--- `CenterResult::from`: the two coordinates.
-use Rattle.std.proofs.Common.{refl}
-use Rattle.grid_c.specs.Results.{center_result}
-use Rattle.grid_c.proofs.CenterResultFromPoint.from.Goals as goal
-
-pub returns : goal.returns
-unfolding center_result
-returns c = refl

@@ -1,4 +1,0 @@
-pub mod Writing
-pub mod Inserting
-pub mod Finding
-pub mod Marking

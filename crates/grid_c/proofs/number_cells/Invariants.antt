@@ -1,8 +1,0 @@
--- `grid_c::number_cells`: the cells of the vertices before v are written.
-use Rattle.rules.specs.HandedOver.{at}
-use Rattle.rules.specs.SamplesAndCache.{cell_at}
-use Rattle.grid_c.proofs.Writing.{Writing}
-use Rattle.grid_c.proofs.number_cells.Given as goal
-
-abbrev pub invariant-loop-v : goal.invariant-loop-v
-invariant-loop-v l = Writing (cell_at (at l.points) l.g.spatial) l.n l.initial.cells l.cells l.v

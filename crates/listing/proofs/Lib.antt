@@ -1,4 +1,0 @@
-pub mod Counting
-pub mod Entry
-pub mod Folding
-pub mod Around

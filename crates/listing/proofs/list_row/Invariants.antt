@@ -1,7 +1,0 @@
--- The invariant of `listing::list_row`. Assumes nothing.
-use Rattle.rules.specs.SamplesAndCache.{listed}
-use Rattle.listing.proofs.Folding.{Folding}
-use Rattle.listing.proofs.list_row.Given as goal
-
-abbrev pub invariant-loop-cell : goal.invariant-loop-cell
-invariant-loop-cell l = Folding l.lay l.turn listed l.fn.work l.count l.start l.end l.work l.n l.cell

@@ -1,0 +1,4 @@
+pub mod ListCounts
+pub mod Entry
+pub mod ListFold
+pub mod Around

@@ -1,0 +1,17 @@
+pub mod Lists
+pub mod Sums
+pub mod Winner
+pub mod Layers
+pub mod FloatOrder
+pub mod FiniteDistances
+pub mod Rows
+pub mod Accepted
+pub mod Squares
+pub mod Rings
+pub mod Nearest
+pub mod Contours
+pub mod Waiting
+pub mod Start
+pub mod Ordering
+pub mod Steps
+pub mod Slices

@@ -1,0 +1,15 @@
+pub mod Half
+pub mod NearFraction
+pub mod Units
+pub mod Order
+pub mod Results
+pub mod Sums
+pub mod Quotients
+pub mod Coords
+pub mod Boxes
+pub mod Origin
+pub mod Cells
+pub mod Spans
+pub mod CellSize
+pub mod BoxGrid
+pub mod Centre

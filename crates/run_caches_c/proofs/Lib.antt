@@ -1,0 +1,4 @@
+pub mod ArgumentTests
+pub mod FirstStage
+pub mod StageLaws
+pub mod LastStage

@@ -1,0 +1,4 @@
+pub mod WriteLoop
+pub mod InsertStep
+pub mod AnswerRange
+pub mod MarkedSamples

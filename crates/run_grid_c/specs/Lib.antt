@@ -1,0 +1,2 @@
+pub mod Results
+pub mod RoomTests

@@ -1,0 +1,2 @@
+pub mod HexDigits
+pub mod Places

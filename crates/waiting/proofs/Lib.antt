@@ -1,0 +1,2 @@
+pub mod LeadLaws
+pub mod ChoiceLaws

@@ -3,7 +3,7 @@
 
 usage: tools/shape.py counts [--figures] [FOLDER]   one line a figure, its places below it (--figures: no places)
        tools/shape.py twice [--lines N] [FOLDER]    equal statements, equal bodies, and runs of N (6) or more equal lines
-       tools/shape.py crates [--write] [FOLDER]     ARCHITECTURE.md's table of crates (--write: into the page; the seconds in it stay)
+       tools/shape.py crates [--write] [FOLDER]     ARCHITECTURE.md's table of crates (--write: into the page)
        tools/shape.py pages [FOLDER]                files, functions, clauses and edits that the pages name and that are not there
 
 The first two read text as `rt fmt` and `cargo fmt` lay it out: they show places to look at, and prove nothing. What they do not see:
@@ -339,19 +339,18 @@ def twice(size):
 
 
 def crates_table(write):
-    """a row for each crate, in the order of crates.txt; what stands in the page's last two columns stays"""
+    """a row for each crate, in the order of crates.txt"""
     page = pathlib.Path('ARCHITECTURE.md')
     text = page.read_text(encoding='utf-8') if page.exists() else ''
-    seconds = dict(re.findall(r'^\| `(\w+)` \|(?:[^|\n]*\|){5}([^|\n]*\|[^|\n]*\|)$', text, re.M))
     lines = pathlib.Path('crates.txt').read_text(encoding='utf-8').splitlines()
     deps = {line.split(':')[0]: set(line.split(':')[1].split()) for line in lines if ':' in line and line[0] != '#'}
     lower = lambda name: deps[name].union(*map(lower, deps[name]))
     below = {name: lower(name) for name in deps}
-    rows = ['| crate | code | specs | proofs | edits | crates above it | check, s | edits, s |', '|---|--:|--:|--:|--:|--:|--:|--:|']
+    rows = ['| crate | code | specs | proofs | edits | crates above it |', '|---|--:|--:|--:|--:|--:|']
     for name in below:
         size = lambda kind, end: sum(map(len, read('crates/%s/%s/**/*.%s' % (name, kind, end)).values()))
         sizes = size('src', 'rt'), size('specs', 'antt'), size('proofs', 'antt'), len(read('crates/%s/must-fail/*.edit' % name))
-        rows.append('| `%s` | %s |%s' % (name, ' | '.join(map(str, [*sizes, sum(name in b for b in below.values())])), seconds.get(name, ' | |')))
+        rows.append('| `%s` | %s |' % (name, ' | '.join(map(str, [*sizes, sum(name in b for b in below.values())]))))
     if write:
         page.write_text(re.sub(r'(?:^\| .*\n)?^\|---\|--:(?:.*\n)(?:^\|.*\n)*', lambda m: '\n'.join(rows) + '\n', text, flags=re.M), encoding='utf-8')
     else:

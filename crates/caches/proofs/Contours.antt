@@ -16,7 +16,7 @@ use Rattle.rules.specs.SamplesAndCache.{Cache, cache, cached, Sample, sample_at,
 use Rattle.rules.specs.declared.Nearest.{Nearest}
 use Rattle.rules.specs.declared.Nearest.TheVariants.{Found, Nothing}
 use Rattle.rules.specs.declared.SpatialGrid.{SpatialGrid}
-use Rattle.samples.specs.Chains.{is_in_cell}
+use Rattle.samples.specs.Chains.{is_sample_in}
 use Rattle.samples.specs.Owners.{Owned}
 use Rattle.samples.specs.Vertices.{vertex_from}
 use Rattle.samples.specs.Walks.{fold_from, fold_split, fold_idle}
@@ -62,8 +62,8 @@ module _ (xs : List Float) (g : SpatialGrid) (owner : ℕ → ℕ) (ask : ℕ �
       pick (P (first + i)) (tried owner ask j (first + i) (held_of first k)) (held_of first k)
       ≡ held_of first (pick b (query k (sample_at (vertex_from xs first) g i)) k)
 
-  one_in : (c : ℕ) → One (is_in_cell owner (cell_at (at xs) g) c) (query_in asks c)
-  unfolding is_in_cell pick query_in sample_at query_sample cell_at vertex_from asks
+  one_in : (c : ℕ) → One (is_sample_in owner (cell_at (at xs) g) c) (query_in asks c)
+  unfolding is_sample_in pick query_in sample_at query_sample cell_at vertex_from asks
   one_in c i true k h =
       rw (lt-ltb 0 (owner (first + i)) (omega arith), tried_own owner ask j (first + i) (held_of first k) h, held_cached first k i (ask (first + i)))
       (go (eqb (cell_at (at xs) g (first + i)) c))
@@ -121,7 +121,7 @@ module _ (xs : List Float) (g : SpatialGrid) (owner : ℕ → ℕ) (ask : ℕ �
     updates_in : (k : Cache) (c : ℕ) →
         tried_in owner (cell_at (at xs) g) ask n j (held_of first k) c ≡ held_of first (updated_in asks (samples_from (vertex_from xs first) g 0 bs) k c)
     unfolding tried_in updated_in
-    updates_in k c = all_folded (is_in_cell owner (cell_at (at xs) g) c) (query_in asks c) (one_in c) n bs k own
+    updates_in k c = all_folded (is_sample_in owner (cell_at (at xs) g) c) (query_in asks c) (one_in c) n bs k own
 
     pub updates : (cells : List ℕ) (k : Cache) →
         foldl (tried_in owner (cell_at (at xs) g) ask n j) (held_of first k) cells

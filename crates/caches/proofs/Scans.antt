@@ -12,7 +12,7 @@ use Rattle.rules.specs.declared.SpatialGrid.{SpatialGrid}
 use Rattle.work_layout.specs.Laid.{Laid}
 use Rattle.work_layout.specs.Parts.{from}
 use Rattle.work_layout.specs.declared.Layout.{Layout}
-use Rattle.samples.specs.Chains.{first_of, is_in_cell}
+use Rattle.samples.specs.Chains.{first_of, is_sample_in}
 use Rattle.samples.specs.Walks.{fold_from, FoldStep, fold_none, fold_first}
 use Rattle.prepare.specs.PreparedSlices.{Prepared}
 use Rattle.caches.specs.HeldCache.{Held, held_at}
@@ -34,13 +34,13 @@ module _ (xs : List Float) (g : SpatialGrid) (lay : Layout) (ask : ℕ → Neare
   -- what is held of contour j after the cell's samples from vertex v on
   abbrev from_on : ℕ → ℕ → Held → Held
   from_on v j k =
-      fold_from (is_in_cell (from w₀ lay.owners) (cell_at (at xs) g) cell) (tried (from w₀ lay.owners) ask j) (lay.points - v) v k
+      fold_from (is_sample_in (from w₀ lay.owners) (cell_at (at xs) g) cell) (tried (from w₀ lay.owners) ask j) (lay.points - v) v k
 
   -- the samples before vertex `next` are queried, and the cursor is at the next
   pub record Scan (ds : List Float) (w : List ℕ) (cursor : ℕ) : Type 0 where
     pub next : ℕ
     pub most : next ≤ lay.points
-    pub at_next : cursor ≡ first_of (is_in_cell (from w₀ lay.owners) (cell_at (at xs) g) cell) (lay.points - next) next
+    pub at_next : cursor ≡ first_of (is_sample_in (from w₀ lay.owners) (cell_at (at xs) g) cell) (lay.points - next) next
     pub reached : Reached lay ds₀ w₀ ds w (from_on next) (from_on 0)
 
 module _ {xs : List Float} {g : SpatialGrid} {lay : Layout} {cell : ℕ} {ds₀ : List Float} {w₀ : List ℕ} where
@@ -52,7 +52,7 @@ module _ {xs : List Float} {g : SpatialGrid} {lay : Layout} {cell : ℕ} {ds₀ 
       module _ (some : cursor ≡ 0 → ⊥) where
         -- the cursor's vertex is the first that is left
         step : (j : ℕ) (k : Held) →
-            FoldStep (is_in_cell (from w₀ lay.owners) (cell_at (at xs) g) cell) (tried (from w₀ lay.owners) ask j) (lay.points - s.next) s.next k (cursor - 1)
+            FoldStep (is_sample_in (from w₀ lay.owners) (cell_at (at xs) g) cell) (tried (from w₀ lay.owners) ask j) (lay.points - s.next) s.next k (cursor - 1)
         step j k = let e : cursor ≡ suc (cursor - 1) = omega arith in fold_first _ _ _ _ _ (cursor - 1) (sym s.at_next ∙ e)
 
         abbrev held₀ : Held
@@ -62,7 +62,7 @@ module _ {xs : List Float} {g : SpatialGrid} {lay : Layout} {cell : ℕ} {ds₀ 
         scan_in = let t = step 0 held₀ in omega (arith, t.below, s.most)
 
         link : from w₀ lay.next (cursor - 1)
-            ≡ first_of (is_in_cell (from w₀ lay.owners) (cell_at (at xs) g) cell) (lay.points - suc (cursor - 1)) (suc (cursor - 1))
+            ≡ first_of (is_sample_in (from w₀ lay.owners) (cell_at (at xs) g) cell) (lay.points - suc (cursor - 1)) (suc (cursor - 1))
         link = prepared.chained.succ cell (cursor - 1) inside (omega arith) scan_in (step 0 held₀).passes
 
         module _ {ds' : List Float} {w' : List ℕ} (m : Moved lay ds w ds' w' (λ j. tried (from w lay.owners) ask j (cursor - 1))) where
@@ -94,5 +94,5 @@ module _ {xs : List Float} {g : SpatialGrid} {lay : Layout} {cell : ℕ} {ds₀ 
       scan_end z =
           let owner = from w₀ lay.owners in
           let e : lay.points - 0 ≡ lay.points = omega arith in
-          subst (λ (n : ℕ). Moved lay ds₀ w₀ ds w (λ j k. fold_from (is_in_cell owner (cell_at (at xs) g) cell) (tried owner ask j) n 0 k)) e
+          subst (λ (n : ℕ). Moved lay ds₀ w₀ ds w (λ j k. fold_from (is_sample_in owner (cell_at (at xs) g) cell) (tried owner ask j) n 0 k)) e
           (reached_end laid s.reached (λ j k. fold_none _ _ _ _ k (sym s.at_next ∙ z)))

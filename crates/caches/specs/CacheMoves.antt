@@ -4,7 +4,7 @@ use Rattle.rules.specs.Tools.{pick}
 use Rattle.rules.specs.declared.Nearest.{Nearest}
 use Rattle.work_layout.specs.Parts.{from, KeptBelow, KeptFrom}
 use Rattle.work_layout.specs.declared.Layout.{Layout}
-use Rattle.samples.specs.Chains.{is_in_cell}
+use Rattle.samples.specs.Chains.{is_sample_in}
 use Rattle.samples.specs.Walks.{fold_from}
 use Rattle.caches.specs.HeldCache.{Held, held_at, replaced}
 
@@ -14,7 +14,7 @@ tried owner ask j v k = pick (eqb (owner v) (suc j)) (replaced k v (ask v)) k
 
 -- what is held of contour j after those of n vertices that are samples in a cell
 unfoldable pub tried_in : (ℕ → ℕ) → (ℕ → ℕ) → (ℕ → Nearest) → ℕ → ℕ → Held → ℕ → Held
-tried_in owner cell ask n j k c = fold_from (is_in_cell owner cell c) (tried owner ask j) n 0 k
+tried_in owner cell ask n j k c = fold_from (is_sample_in owner cell c) (tried owner ask j) n 0 k
 
 -- What is held of each waiting contour is changed by f, and of the u32 slice nothing but entries is altered.
 pub record Moved (lay : Layout) (ds : List Float) (w : List ℕ) (ds' : List Float) (w' : List ℕ) (f : ℕ → Held → Held) : Type 0 where

@@ -4,7 +4,7 @@ use Rattle.rules.specs.HandedOver.{at}
 use Rattle.rules.specs.SamplesAndCache.{cell_at}
 use Rattle.rules.specs.declared.Nearest.{Nearest}
 use Rattle.work_layout.specs.Parts.{from}
-use Rattle.samples.specs.declared.Frame.{Frame}
+use Rattle.frame.specs.declared.Frame.{Frame}
 use Rattle.caches.specs.HeldCache.{Held}
 use Rattle.caches.specs.CacheMoves.{tried_in}
 use Rattle.caches.specs.QueryNeeds.{Querying, asked}

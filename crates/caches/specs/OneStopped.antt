@@ -13,17 +13,17 @@ use Rattle.caches.specs.QueryNeeds.{Querying}
 
 module _ {xs : List Float} {g : SpatialGrid} {lay : Layout} {ds : List Float} {w : List ℕ} {path : List Float} {count j : ℕ}
     (q : Querying xs g lay ds w path count) (l : j < lay.contours) where
-  laid : Laid lay (length w)
+  pub laid : Laid lay (length w)
   laid = q.prepared.plated.laid
 
-  other : (i : ℕ) → (i ≡ lay.waiting + j → ⊥) → get_or (stopped lay w j) i 0 ≡ get_or w i 0
-  other i d = get_or-set_other w (lay.waiting + j) i 0 0 d
+  pub stopped_other : (i : ℕ) → (i ≡ lay.waiting + j → ⊥) → get_or (stopped lay w j) i 0 ≡ get_or w i 0
+  stopped_other i d = get_or-set_other w (lay.waiting + j) i 0 0 d
 
   stopped_below : KeptBelow lay.flags w (stopped lay w j)
-  stopped_below i m = other i (λ e. omega (arith, laid))
+  stopped_below i m = stopped_other i (λ e. omega (arith, laid))
 
   pub stopped_flag : (k : ℕ) → k < lay.cells → from (stopped lay w j) lay.flags k ≡ from w lay.flags k
-  stopped_flag k m = other (lay.flags + k) (λ e. omega (arith, laid))
+  stopped_flag k m = stopped_other (lay.flags + k) (λ e. omega (arith, laid))
 
   pub stopped_querying : Querying xs g lay ds (stopped lay w j) path count
   stopped_querying =

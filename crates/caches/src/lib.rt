@@ -7,7 +7,7 @@ ghost use Rattle.rules.specs.Limits.{fixed_work, most_cells, most_path_points};
 ghost use Rattle.rules.specs.Tools.{foldl, sum};
 ghost use Rattle.rules.specs.HandedOver.{Plate, contours_from, vertex_at};
 ghost use Rattle.rules.specs.SamplesAndCache.{waiting, cells_around, seed, update};
-ghost use Rattle.plate_laws.specs.Accepted.{Accepted};
+ghost use Rattle.plate_laws.specs.AcceptedInput.{Accepted};
 ghost use Rattle.plate_laws.specs.FiniteDistances.{OnPlate};
 ghost use Rattle.plate_laws.specs.Lists.{All};
 ghost use Rattle.contours.specs.ContourOf.{contour_of};
@@ -22,13 +22,13 @@ ghost use Rattle.caches.specs.CacheMoves.{tried, Moved};
 ghost use Rattle.caches.specs.FrameCaches.{QueryingBy, asked_by, tried_in_cell};
 
 use contours::ContourRange;
+use frame::Frame;
 use grid::Grid;
 use history::clear;
 use nearest::nearest;
 use neighbours::list_cells;
 use prepare::prepare;
 use rules::{MOST_CELLS, Nearest, Vertex, point_at};
-use samples::Frame;
 use waiting::{stop_waiting, waits};
 use work_layout::laid_out;
 

@@ -14,15 +14,15 @@ pub data Hit : Type 0 where
   hit : ℕ → ℕ → Hit
 
 -- place q with key e is better than place p with key d: a smaller key, or an equal one and a higher place
-unfoldable pub beats : ℕ → ℕ → ℕ → ℕ → Bool
-beats q e p d = ltb e d || (eqb e d && ltb p q)
+unfoldable pub hit_beats : ℕ → ℕ → ℕ → ℕ → Bool
+hit_beats q e p d = ltb e d || (eqb e d && ltb p q)
 
 unfoldable pub better : Hit → Hit → Hit
 better miss h = h
 better (hit p d) miss = hit p d
-better (hit p d) (hit q e) = cond (beats q e p d) (hit q e) (hit p d)
+better (hit p d) (hit q e) = cond (hit_beats q e p d) (hit q e) (hit p d)
 
--- ---- `beats`, in numbers
+-- ---- `hit_beats`, in numbers
 
 or_true : (a b c : Bool) → (a || (b && c)) ≡ true → (a ≡ true) ⊎ ((b ≡ true) × (c ≡ true))
 or_true true b c h = inl refl
@@ -41,32 +41,32 @@ abbrev Lost : ℕ → ℕ → ℕ → ℕ → Type 0
 Lost q e p d = (d < e) ⊎ ((e ≡ d) × (q ≤ p))
 
 module _ (q e p d : ℕ) where
-  won : beats q e p d ≡ true → Won q e p d
-  unfolding beats
+  won : hit_beats q e p d ≡ true → Won q e p d
+  unfolding hit_beats
   won h =
       ⊎_elim (λ t. inl (ltb-true e d t)) (λ t. inr (eqb-true e d t.0, ltb-true p q t.1))
       (or_true (ltb e d) (eqb e d) (ltb p q) h)
 
-  lost : beats q e p d ≡ false → Lost q e p d
-  unfolding beats
+  lost : hit_beats q e p d ≡ false → Lost q e p d
+  unfolding hit_beats
   lost h = let t = or_false (ltb e d) (eqb e d) (ltb p q) h in go (eqb e d) refl (ltb-false e d t.0) t.1
     where
       go : (b : Bool) → eqb e d ≡ b → d ≤ e → (eqb e d ≡ false) ⊎ (ltb p q ≡ false) → Lost q e p d
       go true w le s = ⊎_elim (λ f. absurd (true≢false (sym w ∙ f))) (λ f. inr (eqb-true e d w, ltb-false p q f)) s
       go false w le s = let ne : e ≡ d → ⊥ = eqb-false e d w in inl (omega arith)
 
-  wins : Won q e p d → beats q e p d ≡ true
-  unfolding beats
+  wins : Won q e p d → hit_beats q e p d ≡ true
+  unfolding hit_beats
   wins (inl h) = rw (lt-ltb e d h)
   wins (inr h) = rw (eq-eqb e d h.0, lt-ltb p q h.1, le-ltb e d (omega arith))
 
-  loses : Lost q e p d → beats q e p d ≡ false
-  unfolding beats
+  loses : Lost q e p d → hit_beats q e p d ≡ false
+  unfolding hit_beats
   loses (inl h) = rw (le-ltb e d (omega arith), ne_eqb e d (omega arith))
   loses (inr h) = rw (eq-eqb e d h.0, le-ltb p q h.1, le-ltb e d (omega arith))
 
 -- it is transitive, and so is its failure
-beats_trans : (p d q e r f : ℕ) → beats q e p d ≡ true → beats r f q e ≡ true → beats r f p d ≡ true
+beats_trans : (p d q e r f : ℕ) → hit_beats q e p d ≡ true → hit_beats r f q e ≡ true → hit_beats r f p d ≡ true
 beats_trans p d q e r f h k = wins r f p d (go (won q e p d h) (won r f q e k))
   where
     go : Won q e p d → Won r f q e → Won r f p d
@@ -75,7 +75,7 @@ beats_trans p d q e r f h k = wins r f p d (go (won q e p d h) (won r f q e k))
     go (inr a) (inl b) = inl (omega arith)
     go (inr a) (inr b) = inr (omega arith)
 
-loses_trans : (p d q e r f : ℕ) → beats q e p d ≡ false → beats r f q e ≡ false → beats r f p d ≡ false
+loses_trans : (p d q e r f : ℕ) → hit_beats q e p d ≡ false → hit_beats r f q e ≡ false → hit_beats r f p d ≡ false
 loses_trans p d q e r f h k = loses r f p d (go (lost q e p d h) (lost r f q e k))
   where
     go : Lost q e p d → Lost r f q e → Lost r f p d
@@ -85,14 +85,14 @@ loses_trans p d q e r f h k = loses r f p d (go (lost q e p d h) (lost r f q e k
     go (inr a) (inr b) = inr (omega arith)
 
 -- of two not both beat each other, and where neither does they are the same
-beats_asym : (p d q e : ℕ) → beats q e p d ≡ true → beats p d q e ≡ false
+beats_asym : (p d q e : ℕ) → hit_beats q e p d ≡ true → hit_beats p d q e ≡ false
 beats_asym p d q e h = loses p d q e (go (won q e p d h))
   where
     go : Won q e p d → Lost p d q e
     go (inl a) = inl a
     go (inr a) = inr (omega arith)
 
-beats_same : (p d q e : ℕ) → beats q e p d ≡ false → beats p d q e ≡ false → (p ≡ q) × (d ≡ e)
+beats_same : (p d q e : ℕ) → hit_beats q e p d ≡ false → hit_beats p d q e ≡ false → (p ≡ q) × (d ≡ e)
 beats_same p d q e h k = go (lost q e p d h) (lost p d q e k)
   where
     go : Lost q e p d → Lost p d q e → (p ≡ q) × (d ≡ e)
@@ -112,10 +112,10 @@ pub better_assoc : (x y z : Hit) → better (better x y) z ≡ better x (better 
 unfolding better
 better_assoc miss y z = refl
 better_assoc (hit p d) miss z = refl
-better_assoc (hit p d) (hit q e) miss = better_miss (cond (beats q e p d) (hit q e) (hit p d))
-better_assoc (hit p d) (hit q e) (hit r f) = go (beats q e p d) refl (beats r f q e) refl
+better_assoc (hit p d) (hit q e) miss = better_miss (cond (hit_beats q e p d) (hit q e) (hit p d))
+better_assoc (hit p d) (hit q e) (hit r f) = go (hit_beats q e p d) refl (hit_beats r f q e) refl
   where
-    go : (a : Bool) → beats q e p d ≡ a → (b : Bool) → beats r f q e ≡ b →
+    go : (a : Bool) → hit_beats q e p d ≡ a → (b : Bool) → hit_beats r f q e ≡ b →
         better (cond a (hit q e) (hit p d)) (hit r f) ≡ better (hit p d) (cond b (hit r f) (hit q e))
     go true h true k = rw (k, beats_trans p d q e r f h k)
     go true h false k = rw (h, k)
@@ -126,9 +126,9 @@ pub better_comm : (x y : Hit) → better x y ≡ better y x
 unfolding better
 better_comm miss y = sym (better_miss y)
 better_comm (hit p d) miss = refl
-better_comm (hit p d) (hit q e) = go (beats q e p d) refl (beats p d q e) refl
+better_comm (hit p d) (hit q e) = go (hit_beats q e p d) refl (hit_beats p d q e) refl
   where
-    go : (a : Bool) → beats q e p d ≡ a → (b : Bool) → beats p d q e ≡ b →
+    go : (a : Bool) → hit_beats q e p d ≡ a → (b : Bool) → hit_beats p d q e ≡ b →
         cond a (hit q e) (hit p d) ≡ cond b (hit p d) (hit q e)
     go true h true k = absurd (true≢false (sym k ∙ beats_asym p d q e h))
     go true h false k = refl
@@ -138,7 +138,7 @@ better_comm (hit p d) (hit q e) = go (beats q e p d) refl (beats p d q e) refl
 pub better_same : (x : Hit) → better x x ≡ x
 unfolding better
 better_same miss = refl
-better_same (hit p d) = go (beats p d p d)
+better_same (hit p d) = go (hit_beats p d p d)
   where
     go : (b : Bool) → cond b (hit p d) (hit p d) ≡ hit p d
     go true = refl

@@ -117,12 +117,12 @@ runs joined v zero = []
 runs joined v (suc m) = let rest = runs joined (suc v) m in pick (joined v) (lengthen rest) (1 ∷ rest)
 
 -- segment v is cut
-unfoldable pub is_cut : List ℕ → ℕ → Bool
-is_cut ms v = ltb 0 (cuts_of v ms)
+unfoldable pub is_segment_cut : List ℕ → ℕ → Bool
+is_segment_cut ms v = ltb 0 (cuts_of v ms)
 
 -- the lengths of the contours, which are the runs that cuts join
 unfoldable pub recovered_lengths : List ℕ → ℕ → List ℕ
-recovered_lengths ms m = runs (is_cut ms) 0 m
+recovered_lengths ms m = runs (is_segment_cut ms) 0 m
 
 -- ---- the refusals, and the call
 

@@ -9,7 +9,7 @@ use Rattle.rules.specs.Bits.{same_exponent, same_float, same_point}
 use Rattle.rules.specs.Marks.{coincide, count_marks, coordinates, kind_at, reference_at, named, vertices_after, cuts_of, enters}
 use Rattle.rules.specs.Plates.{whole, ◌∣◌, along, points_of, pairs}
 use Rattle.statement.specs.PathCheck.{miscounted_path}
-use Rattle.contour_recovery.specs.ContourRecovery.{lands_on, landed, only_where, known_kind, vertex_in_range, cuts_from_an_end, returns_over_a_pair, starts_first, lands_once, returns_to_bits, jumps_apart, consistent, vertex_count, landing_place, recovered_points, lengthen, runs, is_cut}
+use Rattle.contour_recovery.specs.ContourRecovery.{lands_on, landed, only_where, known_kind, vertex_in_range, cuts_from_an_end, returns_over_a_pair, starts_first, lands_once, returns_to_bits, jumps_apart, consistent, vertex_count, landing_place, recovered_points, lengthen, runs, is_segment_cut}
 use Rattle.contour_recovery.specs.ContourRecovery.{recovered_lengths, marks_inconsistent, vertex_missing, recovery_call, recovery_answer}
 use Rattle.rules.specs.declared.Recovered.{Recovered}
 use Rattle.rules.specs.declared.RecoveryRefusal.TheVariants.{PathMiscounted, PathOffThePlate, PathWorkShort, MarksInconsistent, VertexMissing, NoRoom}
@@ -211,7 +211,7 @@ unfolding
     same_exponent same_float same_point coincide count_marks coordinates kind_at reference_at named vertices_after cuts_of enters miscounted_path
     -- ContourRecovery
     lands_on landed only_where known_kind vertex_in_range cuts_from_an_end returns_over_a_pair starts_first lands_once returns_to_bits jumps_apart consistent
-    vertex_count landing_place recovered_points lengthen runs is_cut recovered_lengths marks_inconsistent vertex_missing recovery_call
+    vertex_count landing_place recovered_points lengthen runs is_segment_cut recovered_lengths marks_inconsistent vertex_missing recovery_call
 recovered = refl
 
 -- the numbers and places of the code's refusals

@@ -3,8 +3,8 @@ use Rattle.std.specs.Prelude.{List, ℕ, ◌+◌, ◌<◌, length}
 use Rattle.std.proofs.Common.{arith}
 use Rattle.rules.specs.Tools.{sum}
 use Rattle.rules.specs.HandedOver.{Contour, contours_from, contours_of}
-use Rattle.plate_laws.specs.Lists.{All, all_give, all_both}
-use Rattle.plate_laws.specs.Contours.{from_on, numbers_from}
+use Rattle.plate_laws.specs.Lists.{All, all_give}
+use Rattle.plate_laws.specs.Contours.{places_from}
 use Rattle.contours.specs.declared.Contours.{Contours}
 
 abbrev pub contours_left : Contours → List Contour
@@ -16,6 +16,4 @@ pub record WithinCounts (n s : ℕ) (c : Contour) : Type 0 where
   pub last : c.first + c.last < s
 
 pub all_within : (ns : List ℕ) → All (WithinCounts (length ns) (sum ns)) (contours_of ns)
-all_within ns =
-    all_give _ _ (λ c h. record { number = omega (arith, h.0); last = omega (arith, h.1) }) (contours_of ns)
-    (all_both _ _ (contours_of ns) (numbers_from 0 0 ns) (from_on 0 0 ns))
+all_within ns = all_give _ _ (λ c h. record { number = omega (arith, h.most); last = omega (arith, h.inside) }) (contours_of ns) (places_from 0 0 ns)

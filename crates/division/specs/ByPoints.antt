@@ -16,10 +16,10 @@ use Rattle.statement.specs.PathCheck.{FirstCut, DividesByPoints}
 use Rattle.plate_laws.specs.Contours.{all_among, among_all, Rising, contours_rise}
 use Rattle.path.specs.Theorem.{path_statement}
 use Rattle.path.specs.Blank.{blank_statement}
-use Rattle.division_laws.specs.MarkCounts.{count_alone}
+use Rattle.division_laws.specs.MarkCounts.{count_alone, cutting}
 use Rattle.division_laws.specs.Maps.{division_maps}
 use Rattle.division.specs.Kinds.{says_cut, cut_pair}
-use Rattle.division.specs.Tallies.{within_run, sum_full, entering, cutting, entries_add, kinds_add}
+use Rattle.division.specs.Tallies.{within_run, sum_full, entering_any, entries_add, kinds_add}
 use Rattle.division.specs.RulesKept.{entries_most}
 use Rattle.division.specs.EnteredFirst.{division_pairs, pairs_sorted, unentered, cut_entered}
 
@@ -34,8 +34,8 @@ module _ {cs : List Contour} (rising : Rising cs) {x : ℕ → Point} {n : ℕ} 
       (NotEntered v) (Unentered ms) (λ k l. unentered (division_pairs d) k (omega (arith, l))) ms d
 
   -- there are as many entries as contours, and so each contour is entered once
-  pub entries_are : count_marks entering ms ≡ length cs
-  entries_are = omega (arith, kinds_add rising (pairs_sorted (division_pairs d)), d.cuts, d.all)
+  pub entries_are : count_marks entering_any ms ≡ length cs
+  entries_are = omega (arith, kinds_add rising (pairs_sorted (division_pairs d)), d.cuts, d.points)
 
   pub entered_once : (c : Contour) → Among c cs → entries_of c ms ≡ 1
   entered_once c m =
@@ -88,7 +88,7 @@ blank_by_points [] xs e =
             pairs = λ k l. absurd (omega (arith, l));
             cuts = refl;
             jumps = λ l. absurd (omega (arith, l));
-            all = refl;
+            points = refl;
             once = λ c m. absurd m;
           };
       first_cuts = λ k l. absurd (omega (arith, l));

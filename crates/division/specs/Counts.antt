@@ -9,10 +9,10 @@ use Rattle.rules.specs.Marks.{cut_kind, back_step_kind, jump_kind, touch_kind, c
 use Rattle.plate_laws.specs.Lists.{all_up_from, length_up_from}
 use Rattle.plate_laws.specs.Sums.{sum_ones, sum_same}
 use Rattle.plate_laws.specs.Contours.{among_all, Rising}
-use Rattle.division.specs.Tallies.{within_run, entering, Sorted, entries_add, cuts_add, kinds_add, landings_add}
+use Rattle.division.specs.Tallies.{within_run, entering_any, Sorted, entries_add, cuts_add, kinds_add, landings_add}
 
 module _ {cs : List Contour} (rising : Rising cs) {n : ℕ} {ms : List ℕ} (sorted : Sorted cs n ms) where
-  pub entries_are : ((c : Contour) → Among c cs → entries_of c ms ≡ 1) → count_marks entering ms ≡ length cs
+  pub entries_are : ((c : Contour) → Among c cs → entries_of c ms ≡ 1) → count_marks entering_any ms ≡ length cs
   entries_are entered =
       omega (arith, entries_add rising sorted, sum_same (λ c. entries_of c ms) (λ c. 1) cs (among_all _ cs entered), sum_ones cs)
 

@@ -1,15 +1,15 @@
 -- Where the start and the pairs of a path are as its marks say, by vertices, in whatever sense a landing's contour is new: a contour of which a path point is, is
 -- entered, and is so before it is cut. Assumes nothing.
-use Rattle.std.specs.Prelude.{◌≡◌, refl, ◌⊎◌, ◌&&◌, List, ℕ, zero, suc, ◌+◌, ◌-◌, ◌*◌, ◌≤◌, ◌<◌, T, length}
+use Rattle.std.specs.Prelude.{◌≡◌, refl, ◌⊎◌, List, ℕ, zero, suc, ◌+◌, ◌-◌, ◌*◌, ◌≤◌, ◌<◌, T, length}
 use Rattle.std.proofs.Common.{subst, inl, inr, arith}
 use Rattle.std.proofs.Math.Decide.{dec_le}
 use Rattle.rules.specs.HandedOver.{Contour}
-use Rattle.rules.specs.Contours.{Among, Of, NotOf, is_of}
+use Rattle.rules.specs.Contours.{Among, Of, NotOf}
 use Rattle.rules.specs.Marks.{cut_kind, kind_at, reference_at, vertex_in, enters, entries_of, marks_before}
 use Rattle.rules.specs.declared.Point.{Point}
 use Rattle.statement.specs.Division.{itself, Cut, PairOf, StartOf, NotEntered, Unentered, Division}
 use Rattle.plate_laws.specs.Contours.{Rising, one_of}
-use Rattle.division_laws.specs.MarkCounts.{count_more, count_here, count_none}
+use Rattle.division_laws.specs.MarkCounts.{count_more, count_here, count_none, entering}
 use Rattle.division.specs.Kinds.{says_entry, start_enters, landing_enters, entry_lands, cut_pair}
 use Rattle.division.specs.Tallies.{Sorted, pair_names}
 
@@ -40,9 +40,9 @@ module _ {cs : List Contour} {x : ℕ → Point} {New : ℕ → Contour → Type
   -- a contour that no path point is of is not entered
   pub unentered : (k : ℕ) → k < n → (c : Contour) → NotEntered v k c → Unentered ms k c
   unfolding entries_of
-  unentered k l c none = count_none (λ kind r. enters kind && is_of c r) ms (suc k) (omega (arith, d.whole, l)) never
+  unentered k l c none = count_none (entering c) ms (suc k) (omega (arith, d.whole, l)) never
     where
-      never : (j : ℕ) → j < suc k → T (enters (kind_at ms j) && is_of c (reference_at ms j)) → ⊥
+      never : (j : ℕ) → j < suc k → T (entering c (kind_at ms j) (reference_at ms j)) → ⊥
       never j h t =
           let q = (says_entry c (kind_at ms j) (reference_at ms j)).tells t in
           let e = entry_vertex j (omega (arith, h, l)) q.0 in
@@ -53,7 +53,7 @@ module _ {cs : List Contour} {x : ℕ → Point} {New : ℕ → Contour → Type
   unfolding entries_of
   entered_later c i j l h o =
       let e : i + (j - i) ≡ j = omega (arith, l) in
-      let more = rw e at (count_more (λ kind r. enters kind && is_of c r) ms i (j - i) (omega (arith, d.whole, h, l))) in
+      let more = rw e at (count_more (entering c) ms i (j - i) (omega (arith, d.whole, h, l))) in
       omega (arith, o, more)
 
   abbrev EnteredBy : ℕ → Type 0
@@ -62,7 +62,7 @@ module _ {cs : List Contour} {x : ℕ → Point} {New : ℕ → Contour → Type
   entry_enters : (k : ℕ) → k < n → T (enters (kind_at ms k)) → EnteredBy k
   unfolding entries_of
   entry_enters k l t c m o =
-      count_here (λ kind r. enters kind && is_of c r) ms k (omega (arith, d.whole, l))
+      count_here (entering c) ms k (omega (arith, d.whole, l))
       ((says_entry c (kind_at ms k) (reference_at ms k)).told (t, subst (Of c) (entry_vertex k l t) o))
 
   module _ (rising : Rising cs) where

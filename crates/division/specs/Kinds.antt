@@ -1,5 +1,5 @@
 -- What the kind of a mark says: whether it enters a contour, and what its pair is. Assumes nothing.
-use Rattle.std.specs.Prelude.{◌≡◌, ◌⊎◌, ◌&&◌, List, ℕ, T, eqb}
+use Rattle.std.specs.Prelude.{◌≡◌, ◌⊎◌, List, ℕ, T}
 use Rattle.std.proofs.Common.{subst, inl, inr, arith}
 use Rattle.rules.specs.HandedOver.{Contour}
 use Rattle.rules.specs.Contours.{Of, is_of}
@@ -7,14 +7,15 @@ use Rattle.rules.specs.Marks.{start_kind, cut_kind, back_step_kind, enters}
 use Rattle.rules.specs.declared.Point.{Point}
 use Rattle.statement.specs.Division.{Cut, Landing, JumpOrTouch, PairOf}
 use Rattle.division_laws.specs.Says.{Says, says_and, says_eqb}
+use Rattle.division_laws.specs.MarkCounts.{cutting, entering}
 use Rattle.division_laws.specs.Rules.{says_of}
 
 -- ---- what the marks are counted by
 
-pub says_cut : (v kind r : ℕ) → Says (eqb kind cut_kind && eqb r v) ((kind ≡ cut_kind) × (r ≡ v))
+pub says_cut : (v kind r : ℕ) → Says (cutting v kind r) ((kind ≡ cut_kind) × (r ≡ v))
 says_cut v kind r = says_and _ _ _ _ (says_eqb kind cut_kind) (says_eqb r v)
 
-pub says_entry : (c : Contour) (kind r : ℕ) → Says (enters kind && is_of c r) (T (enters kind) × Of c r)
+pub says_entry : (c : Contour) (kind r : ℕ) → Says (entering c kind r) (T (enters kind) × Of c r)
 says_entry c kind r = says_and (enters kind) (is_of c r) _ _ (record { tells = λ t. t; told = λ t. t }) (says_of c r)
 
 -- ---- kinds that enter, and kinds that do not

@@ -21,7 +21,7 @@ use Rattle.division.specs.RulesKept.{says_rules, divides_rules, RulesKept, cuts_
 -- ---- what is left out
 
 -- the test that something is left out
-pub says_left_out : (cs : List Contour) (ms : List ℕ) → Says (not (complete cs ms)) (LeftOut cs ms)
+says_left_out : (cs : List Contour) (ms : List ℕ) → Says (not (complete cs ms)) (LeftOut cs ms)
 unfolding complete LeftOut
 says_left_out cs ms =
     says_not_every (λ c. ltb 0 (entries_of c ms) && every (λ v. ltb 0 (cuts_of v ms)) (up_from c.first c.last))

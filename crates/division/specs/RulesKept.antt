@@ -10,10 +10,10 @@ use Rattle.statement.specs.Division.{JumpOrTouch, PairOf, Unentered}
 use Rattle.statement.specs.PathCheck.{FirstCut, RulesAt, DividesByPoints, keeps_rules}
 use Rattle.plate_laws.specs.Contours.{Rising, one_of}
 use Rattle.division_laws.specs.Says.{Says, says_by}
-use Rattle.division_laws.specs.MarkCounts.{count_first, count_all}
+use Rattle.division_laws.specs.MarkCounts.{count_first, count_all, cutting, entering}
 use Rattle.division_laws.specs.Rules.{KeepsAfter, says_keeps, says_start}
 use Rattle.division.specs.Kinds.{says_cut, says_entry, entry_lands}
-use Rattle.division.specs.Tallies.{cutting, Sorted, pair_names}
+use Rattle.division.specs.Tallies.{Sorted, pair_names}
 use Rattle.division.specs.Counts.{cuts_are, jumps_are, points_are}
 
 -- ---- one path point
@@ -79,8 +79,7 @@ module _ {A : Type 0} {cs : List Contour} (rising : Rising cs) (x : ℕ → Poin
   pub entries_most : length ms ≡ 2 * n → (c : Contour) → Among c cs → entries_of c ms ≤ 1
   unfolding entries_of
   entries_most two c m =
-      let test : ℕ → ℕ → _ = λ kind r. enters kind && is_of c r in
-      omega (arith, count_first test ms n (omega (arith, two)) (λ i l. entry_first c m i l), count_all test ms n two)
+      omega (arith, count_first (entering c) ms n (omega (arith, two)) (λ i l. entry_first c m i l), count_all (entering c) ms n two)
 
 -- ---- all path points
 
@@ -138,7 +137,7 @@ module _ {cs : List Contour} {xs : List Float} {n : ℕ} {path : List Float} {ms
                 pairs = kept_pairs;
                 cuts = cuts_are rising sorted once;
                 jumps = jumps_are rising sorted once entered;
-                all = points_are rising sorted once entered;
+                points = points_are rising sorted once entered;
                 once = once;
               };
           first_cuts = λ k l. (kept.rules (suc k) l).1;

@@ -17,7 +17,7 @@ use Rattle.plate_laws.specs.Lists.{All, all_of, all_give}
 use Rattle.plate_laws.specs.Sums.{sum_zeros, sum_same, indicator, sum_absent, sum_once}
 use Rattle.plate_laws.specs.Contours.{Rising, Apart, others, others_apart, sum_others}
 use Rattle.division_laws.specs.Says.{Says, says_by, says_and, says_one, says_leb, says_ltb, says_eqb}
-use Rattle.division_laws.specs.MarkCounts.{pick_one, pick_zero, passing, count_step, count_all}
+use Rattle.division_laws.specs.MarkCounts.{pick_one, pick_zero, passing, count_step, count_all, cutting, entering}
 use Rattle.division_laws.specs.Rules.{says_of}
 use Rattle.division.specs.Kinds.{no_entry}
 
@@ -122,16 +122,13 @@ pair_names x (inr (inl (e, b))) = inr (inl e)
 pair_names x (inr (inr (inl j, f))) = let s = f.fresh in inr (inr (inl j.0, (s.0, s.1, s.2)))
 pair_names x (inr (inr (inr j, f))) = let s = f.fresh in inr (inr (inr j.0, (s.0, s.1, s.2)))
 
-abbrev pub entering : ℕ → ℕ → Bool
-entering kind r = enters kind
+abbrev pub entering_any : ℕ → ℕ → Bool
+entering_any kind r = enters kind
 
 abbrev pub of_kind : ℕ → ℕ → ℕ → Bool
 of_kind a kind r = eqb kind a
 
--- cuts segment v, and cuts a segment of c
-abbrev pub cutting : ℕ → ℕ → ℕ → Bool
-cutting v kind r = eqb kind cut_kind && eqb r v
-
+-- names, and cuts, a segment of c
 abbrev in_segments : Contour → ℕ → Bool
 in_segments c r = leb c.first r && ltb r (c.first + c.last)
 
@@ -196,10 +193,10 @@ module _ {cs : List Contour} (rising : Rising cs) {n : ℕ} {ms : List ℕ} (s :
       go (inr (inr (inr e, x))) = absurd (omega (arith, eqb→eq (kind_at ms (suc k)) cut_kind t, e))
 
   -- the entries of the contours are all entries, and the cuts of the segments all cuts
-  pub entries_add : sum (map (λ c. entries_of c ms) cs) ≡ count_marks entering ms
+  pub entries_add : sum (map (λ c. entries_of c ms) cs) ≡ count_marks entering_any ms
   unfolding entries_of
   entries_add =
-      counts_add ms n s.whole cs (λ c kind r. enters kind && is_of c r) entering
+      counts_add ms n s.whole cs entering entering_any
       (λ i l. sum_one cs rising (enters (kind_at ms i)) (λ c. is_of c (reference_at ms i)) (λ t. here (reference_at ms i) (entry_of i l t)))
     where
       here : (r : ℕ) → OfOne cs r → (c : Contour) × Among c cs × T (is_of c r) × ((d : Contour) → Apart c d → T (is_of d r) → ⊥)
@@ -222,20 +219,21 @@ module _ {cs : List Contour} (rising : Rising cs) {n : ℕ} {ms : List ℕ} (s :
       here r (c, m, l, h) = (c, m, (says_in c r).told (l, h), λ d a t. let q = (says_in d r).tells t in elim a [ inl x ↦ omega arith | inr x ↦ omega arith ])
 
   -- a mark enters, cuts or steps back
-  one_kind : (i : ℕ) → i < n → passing entering ms i + passing (of_kind cut_kind) ms i + passing (of_kind back_step_kind) ms i ≡ 1
+  one_kind : (i : ℕ) → i < n → passing entering_any ms i + passing (of_kind cut_kind) ms i + passing (of_kind back_step_kind) ms i ≡ 1
   unfolding pick enters
   one_kind zero l = rw (s.start l).0 refl
   one_kind (suc k) l = go (s.pairs k l)
     where
       go : NamesOne cs (kind_at ms (suc k)) (reference_at ms (suc k)) →
-          passing entering ms (suc k) + passing (of_kind cut_kind) ms (suc k) + passing (of_kind back_step_kind) ms (suc k) ≡ 1
+          passing entering_any ms (suc k) + passing (of_kind cut_kind) ms (suc k) + passing (of_kind back_step_kind) ms (suc k) ≡ 1
       go (inl (e, x)) = rw e refl
       go (inr (inl e)) = rw e refl
       go (inr (inr (inl e, x))) = rw e refl
       go (inr (inr (inr e, x))) = rw e refl
 
   kinds_before : (i : ℕ) → i ≤ n →
-      count_marks entering (marks_before i ms) + count_marks (of_kind cut_kind) (marks_before i ms) + count_marks (of_kind back_step_kind) (marks_before i ms) ≡ i
+      count_marks entering_any (marks_before i ms) + count_marks (of_kind cut_kind) (marks_before i ms)
+      + count_marks (of_kind back_step_kind) (marks_before i ms) ≡ i
   unfolding count_marks
   kinds_before zero l = refl
   kinds_before (suc i) l =
@@ -243,39 +241,39 @@ module _ {cs : List Contour} (rising : Rising cs) {n : ℕ} {ms : List ℕ} (s :
         arith,
         kinds_before i (omega arith),
         one_kind i l,
-        count_step entering ms i (room i l),
+        count_step entering_any ms i (room i l),
         count_step (of_kind cut_kind) ms i (room i l),
         count_step (of_kind back_step_kind) ms i (room i l),
       )
 
-  pub kinds_add : count_marks entering ms + marks_of cut_kind ms + marks_of back_step_kind ms ≡ n
+  pub kinds_add : count_marks entering_any ms + marks_of cut_kind ms + marks_of back_step_kind ms ≡ n
   unfolding marks_of
   kinds_add =
       let all : (test : ℕ → ℕ → Bool) → count_marks test (marks_before n ms) ≡ count_marks test ms = λ test. count_all test ms n s.whole in
-      omega (arith, kinds_before n (omega arith), all entering, all (of_kind cut_kind), all (of_kind back_step_kind))
+      omega (arith, kinds_before n (omega arith), all entering_any, all (of_kind cut_kind), all (of_kind back_step_kind))
 
   -- what enters after the first is a jump or a touch
-  landing : (k : ℕ) → suc k < n → passing entering ms (suc k) ≡ passing (of_kind jump_kind) ms (suc k) + passing (of_kind touch_kind) ms (suc k)
+  landing : (k : ℕ) → suc k < n → passing entering_any ms (suc k) ≡ passing (of_kind jump_kind) ms (suc k) + passing (of_kind touch_kind) ms (suc k)
   unfolding pick enters
   landing k l = go (s.pairs k l)
     where
       go : NamesOne cs (kind_at ms (suc k)) (reference_at ms (suc k)) →
-          passing entering ms (suc k) ≡ passing (of_kind jump_kind) ms (suc k) + passing (of_kind touch_kind) ms (suc k)
+          passing entering_any ms (suc k) ≡ passing (of_kind jump_kind) ms (suc k) + passing (of_kind touch_kind) ms (suc k)
       go (inl (e, x)) = rw e refl
       go (inr (inl e)) = rw e refl
       go (inr (inr (inl e, x))) = rw e refl
       go (inr (inr (inr e, x))) = rw e refl
 
   landings_before : (k : ℕ) → k < n →
-      count_marks entering (marks_before (suc k) ms)
+      count_marks entering_any (marks_before (suc k) ms)
       ≡ count_marks (of_kind jump_kind) (marks_before (suc k) ms) + count_marks (of_kind touch_kind) (marks_before (suc k) ms) + 1
   unfolding count_marks pick enters
   landings_before zero l =
-      let one : passing entering ms 0 ≡ passing (of_kind jump_kind) ms 0 + passing (of_kind touch_kind) ms 0 + 1 = rw (s.start l).0 refl in
+      let one : passing entering_any ms 0 ≡ passing (of_kind jump_kind) ms 0 + passing (of_kind touch_kind) ms 0 + 1 = rw (s.start l).0 refl in
       omega (
         arith,
         one,
-        count_step entering ms 0 (room 0 l),
+        count_step entering_any ms 0 (room 0 l),
         count_step (of_kind jump_kind) ms 0 (room 0 l),
         count_step (of_kind touch_kind) ms 0 (room 0 l),
       )
@@ -284,14 +282,14 @@ module _ {cs : List Contour} (rising : Rising cs) {n : ℕ} {ms : List ℕ} (s :
         arith,
         landings_before k (omega arith),
         landing k l,
-        count_step entering ms (suc k) (room (suc k) l),
+        count_step entering_any ms (suc k) (room (suc k) l),
         count_step (of_kind jump_kind) ms (suc k) (room (suc k) l),
         count_step (of_kind touch_kind) ms (suc k) (room (suc k) l),
       )
 
-  pub landings_add : 1 ≤ n → count_marks entering ms ≡ marks_of jump_kind ms + marks_of touch_kind ms + 1
+  pub landings_add : 1 ≤ n → count_marks entering_any ms ≡ marks_of jump_kind ms + marks_of touch_kind ms + 1
   unfolding marks_of
   landings_add h =
       let e : suc (n - 1) ≡ n = omega arith in
       let all : (test : ℕ → ℕ → Bool) → count_marks test (marks_before n ms) ≡ count_marks test ms = λ test. count_all test ms n s.whole in
-      omega (arith, rw e at (landings_before (n - 1) (omega arith)), all entering, all (of_kind jump_kind), all (of_kind touch_kind))
+      omega (arith, rw e at (landings_before (n - 1) (omega arith)), all entering_any, all (of_kind jump_kind), all (of_kind touch_kind))

@@ -90,6 +90,6 @@ accepted_counts xs ns path ms w e =
     let d = ((check_decides xs ns path ms w).0 e).1 in (
       d.division.cuts,
       d.division.jumps,
-      d.division.all,
+      d.division.points,
       λ z. empty path (omega (arith, d.whole, no_points d z)),
     )

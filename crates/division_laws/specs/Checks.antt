@@ -1,21 +1,18 @@
 -- What refusals 1 to 5 of the check let pass. Assumes nothing.
-use Rattle.std.specs.Prelude.{◌≡◌, Bool, false, ◌&&◌, List, ℕ, ◌+◌, ◌*◌, ◌/◌, ◌≤◌, Float}
+use Rattle.std.specs.Prelude.{◌≡◌, ◌&&◌, List, ℕ, ◌+◌, ◌*◌, ◌/◌, ◌≤◌, Float}
 use Rattle.std.proofs.Math.Path.{refl}
-use Rattle.std.proofs.Common.{sym, ap, true≢false}
+use Rattle.std.proofs.Common.{ap}
 use Rattle.std.proofs.Math.Bool.{true, not}
 use Rattle.std.proofs.Math.Dec.{eqb}
 use Rattle.std.proofs.Math.ListN.{length}
+use Rattle.std.proofs.lemmas.Bool.{and_parts}
 use borrow.Author.Tests.{ltb-false, le-ltb, eqb-true, eq-eqb, not-false}
 use Rattle.rules.specs.Tools.{sum, every}
 use Rattle.rules.specs.HandedOver.{Answer, refused_by, too_many_contours, too_many_points, miscounted, out_of_range, off_the_plate, work_short, contour_rows}
 use Rattle.statement.specs.PathCheck.{miscounted_path, check_rows}
 use Rattle.plate_laws.specs.Lists.{all_append}
 use Rattle.plate_laws.specs.Rows.{Passed, OtherThan, Lacks, rows_other, rows_pass}
-use Rattle.plate_laws.specs.Accepted.{Accepted, contours_accepted, accepted_contours}
-
-and_true : (a b : Bool) → a && b ≡ true → (a ≡ true) × (b ≡ true)
-and_true true b e = (refl, e)
-and_true false b e = absurd (true≢false (sym e))
+use Rattle.plate_laws.specs.AcceptedInput.{Accepted, contours_accepted, accepted_contours}
 
 module _ (xs : List Float) (ns : List ℕ) (path : List Float) (ms : List ℕ) (w : ℕ) where
   -- an accepted plate, two coordinates and two numbers of marks for each path point, and work for it
@@ -28,7 +25,7 @@ module _ (xs : List Float) (ns : List ℕ) (path : List Float) (ms : List ℕ) (
   unfolding check_rows contour_rows miscounted_path work_short
   rows_matched (a, (b, (c, (d, (marked, (work, t)))))) =
       let n = length path / 2 in
-      let (even, two) = and_true (eqb (length path) (2 * n)) (eqb (length ms) (2 * n)) (not-false _ marked) in
+      let (even, two) = and_parts (eqb (length path) (2 * n)) (eqb (length ms) (2 * n)) (not-false _ marked) in
       record {
         accepted = contours_accepted xs ns (a, (b, (c, (d, tt))));
         whole = (eqb-true (length path) (2 * n) even, eqb-true (length ms) (2 * n) two);

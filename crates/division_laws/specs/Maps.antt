@@ -69,7 +69,7 @@ module _ {A B : Type 0} (f : A → B) (cs : List Contour) (u v : ℕ → A) (u' 
         pairs = λ k h. pair_maps (New k) (New' k) (g k h) k (kind_at ms (suc k)) (reference_at ms (suc k)) h (d.pairs k h);
         cuts = d.cuts;
         jumps = d.jumps;
-        all = d.all;
+        points = d.points;
         once = d.once;
       }
 

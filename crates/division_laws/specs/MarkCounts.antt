@@ -1,12 +1,14 @@
 -- Counting the marks of a slice that pass a test, path point by path point. Assumes nothing.
-use Rattle.std.specs.Prelude.{◌≡◌, Bool, List, [], ◌∷◌, T, length, drop}
+use Rattle.std.specs.Prelude.{◌≡◌, Bool, ◌&&◌, List, [], ◌∷◌, T, length, drop, eqb}
 use Rattle.std.proofs.Math.Path.{refl, sym}
 use Rattle.std.proofs.Math.Bool.{true, false}
 use Prim.Native.Nat.{ℕ, zero, suc, ◌+◌, ◌*◌, ◌≤◌, ◌<◌}
 use Rattle.std.proofs.Common.{zero-add, take_all}
 use native.Mathlib.Omega.{arith}
 use Rattle.rules.specs.Tools.{pick}
-use Rattle.rules.specs.Marks.{count_marks, kind_at, reference_at, marks_before}
+use Rattle.rules.specs.HandedOver.{Contour}
+use Rattle.rules.specs.Contours.{is_of}
+use Rattle.rules.specs.Marks.{cut_kind, count_marks, kind_at, reference_at, enters, marks_before}
 use Rattle.plate_laws.specs.Slices.{twice, twice_one}
 
 -- the first mark apart
@@ -34,6 +36,13 @@ pub pick_zero : (t : Bool) → (T t → ⊥) → ◌≡◌ {A = ℕ} (pick t 1 0
 unfolding pick
 pick_zero true x = absurd (x tt)
 pick_zero false x = refl
+
+-- what `cuts_of` and `entries_of` count: a mark that cuts segment v, and one that enters c
+abbrev pub cutting : ℕ → ℕ → ℕ → Bool
+cutting v kind r = eqb kind cut_kind && eqb r v
+
+abbrev pub entering : Contour → ℕ → ℕ → Bool
+entering c kind r = enters kind && is_of c r
 
 module _ (test : ℕ → ℕ → Bool) where
   count_pair : (k r : ℕ) (ms : List ℕ) → count_marks test (k ∷ r ∷ ms) ≡ pick (test k r) 1 0 + count_marks test ms

@@ -8,10 +8,8 @@ use Rattle.rules.specs.GridAndNearest.{nearest}
 use Rattle.rules.specs.Retrace.{forward, backward, return_to, both_ways, emit, vertex_of, path_points, walk_to, walk_back, place_in, entered}
 use Rattle.rules.specs.Marks.{Step, cut_up, cut_down, landing_kind}
 use Rattle.rules.specs.declared.SpatialGrid.{SpatialGrid}
-use Rattle.plate_laws.specs.Lists.{length_up_from, length_down_to}
-
-ups : (a n : ℕ) → length (map cut_up (up_from a n)) ≡ n
-ups a n = omega (arith, length-map (up_from a n) cut_up, length_up_from a n)
+use Rattle.plate_laws.specs.Lists.{length_down_to}
+use Rattle.plate_laws.specs.Steps.{run_length}
 
 downs : (a n : ℕ) → length (map cut_down (down_to a n)) ≡ n
 downs a n = omega (arith, length-map (down_to a n) cut_down, length_down_to a n)
@@ -27,7 +25,7 @@ both_length kind c e b h =
       arith,
       length-append (ups_of ++ back) low,
       length-append ups_of back,
-      ups (c.first + e) n,
+      run_length (c.first + e) n,
       length-map (down_to 0 n) (return_to (c.first + e) b),
       length_down_to 0 n,
       downs c.first e,
@@ -40,7 +38,7 @@ emit_length kind c e b h = go (eqb e 0) (eqb e c.last) refl
   where
     go : (s t : Bool) → eqb e c.last ≡ t →
         length (pick s (forward kind c) (pick t (backward kind c) (both_ways kind c e b))) ≡ c.last + 1 + pick s 0 (c.last - e)
-    go true t y = omega (arith, ups c.first c.last)
+    go true t y = omega (arith, run_length c.first c.last)
     go false true y = omega (arith, downs c.first c.last, eqb-true e c.last y)
     go false false y = both_length kind c e b h
 

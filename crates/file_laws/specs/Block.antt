@@ -1,18 +1,19 @@
 -- One block: what is written is sound and is read as written, and what is sound is what is written for the points that it is read as. Assumes nothing.
-use Rattle.std.specs.Prelude.{◌≡◌, Bool, true, false, ◌&&◌, ℕ, zero, suc, ◌+◌, ◌-◌, ◌*◌, ◌/◌, ◌^◌, ◌≤◌, ◌<◌, take, drop, Float}
+use Rattle.std.specs.Prelude.{◌≡◌, true, ℕ, zero, suc, ◌+◌, ◌-◌, ◌*◌, ◌/◌, ◌^◌, ◌≤◌, ◌<◌, take, drop, Float}
 use Rattle.std.proofs.Math.Path.{refl, sym, ap, subst}
-use Rattle.std.proofs.Common.{◌∙◌, true≢false, mod-lt, pow-suc, length-drop, take-append-drop, drop_of_length-le, length-take-le, take_at, drop_at, drop-drop}
+use Rattle.std.proofs.Common.{◌∙◌, mod-lt, pow-suc, length-drop, take-append-drop, drop_of_length-le, length-take-le, take_at, drop_at, drop-drop}
 use mathlib.Core.List.{List, [], ◌++◌, append_assoc, append-nil}
 use native.Mathlib.Omega.{arith}
 use Rattle.std.proofs.Math.ListN.{length}
 use Rattle.std.specs.Float.{nan, inf, fin}
 use Rattle.std.specs.Float.Ieee.{neg, lt, eq, le, is_nan}
+use Rattle.std.proofs.lemmas.Bool.{and_from, and_parts}
 use borrow.Author.Tests.{leb-true, eqb-true, le-leb, eq-eqb}
 use Rattle.rules.specs.Tools.{sum}
 use Rattle.rules.specs.HandedOver.{IsF64, in_range, plate_limit, first_off}
 use Rattle.plate_laws.specs.Lists.{All, all_give, all_take, all_drop}
 use Rattle.plate_laws.specs.FiniteDistances.{OnPlate}
-use Rattle.plate_laws.specs.Accepted.{first_off_lem, first_on}
+use Rattle.plate_laws.specs.AcceptedInput.{first_off_lem, first_on}
 use Rattle.little_endian.specs.Bytes.{IsByte, to_bytes, from_bytes, part, field, words, patterns, floats}
 use Rattle.little_endian.specs.Numbers.{bytes_length, number_bytes, bytes_of, words_front, patterns_length, floats_length, floats_patterns, floats_front, NoNan, patterns_floats}
 use Rattle.file_format.specs.PlateFile.{sums, first_check, second_check, block_body, block, count_in, coordinates_in, sound}
@@ -23,15 +24,6 @@ unfolding in_range plate_limit neg le lt eq is_nan
 on_number nan h = absurd h
 on_number (inf s) h = tt
 on_number (fin s m e) h = tt
-
--- ---- tests that all pass
-
-both : (a b : Bool) → a ≡ true → b ≡ true → a && b ≡ true
-both a b e f = rw (e, f)
-
-and_true : (a b : Bool) → a && b ≡ true → (a ≡ true) × (b ≡ true)
-and_true true b e = (refl, e)
-and_true false b e = absurd (true≢false (sym e))
 
 -- ---- parts
 
@@ -129,11 +121,11 @@ block_read i xs h small =
     let read : floats (2 * n) (drop 8 b) ≡ xs = rw (← even, p3.1) (floats_patterns xs _ h.f64) in
     let zeros : from_bytes (part (8 + 16 * n) (496 - 16 * n) b) ≡ 0 = ap from_bytes p5.0 ∙ number_bytes (496 - 8 * length xs) 0 (power (496 - 8 * length xs)) in
     rw p2.0 (
-      both _ _
-          (both _ _
-          (both _ _
-          (both _ _
-          (both _ _ (both _ _ (eq-eqb _ _ p1.0) (le-leb n 31 (omega arith))) (eq-eqb _ _ p3.0))
+      and_from _ _
+          (and_from _ _
+          (and_from _ _
+          (and_from _ _
+          (and_from _ _ (and_from _ _ (eq-eqb _ _ p1.0) (le-leb n 31 (omega arith))) (eq-eqb _ _ p3.0))
           (eq-eqb _ _ zeros))
           (eq-eqb _ _ (p6.0 ∙ ap first_check (sym same))))
           (eq-eqb _ _ (p7.0 ∙ ap second_check (sym same))))
@@ -158,12 +150,12 @@ module _ (i : ℕ) (b : List ℕ) (is : sound i b ≡ true) where
   passed : SoundBlock
   unfolding sound
   passed =
-      let t6 = and_true _ _ is in
-      let t5 = and_true _ _ t6.0 in
-      let t4 = and_true _ _ t5.0 in
-      let t3 = and_true _ _ t4.0 in
-      let t2 = and_true _ _ t3.0 in
-      let t1 = and_true _ _ t2.0 in
+      let t6 = and_parts _ _ is in
+      let t5 = and_parts _ _ t6.0 in
+      let t4 = and_parts _ _ t5.0 in
+      let t3 = and_parts _ _ t4.0 in
+      let t2 = and_parts _ _ t3.0 in
+      let t1 = and_parts _ _ t2.0 in
       record {
         numbered = eqb-true _ _ t1.0;
         few = leb-true _ _ t1.1;

@@ -7,7 +7,7 @@ use Rattle.rules.specs.HandedOver.{IsF64, AllF64, gives, plate_limit, first_off,
 use Rattle.rules.specs.Limits.{most_path_points}
 use Rattle.plate_laws.specs.Lists.{All, all-places}
 use Rattle.plate_laws.specs.Rows.{Passed, rows_give, rows_pass}
-use Rattle.plate_laws.specs.Accepted.{first_off_lem, first_on}
+use Rattle.plate_laws.specs.AcceptedInput.{first_off_lem, first_on}
 use Rattle.little_endian.specs.Bytes.{IsByte, AllBytes}
 use Rattle.file_format.specs.PlateFile.{write_file, read_file, too_many_path_points, odd_path, write_rows, write_call, read_into, coordinates_of, read_call, ReadsBack, OneFile}
 use Rattle.file_laws.specs.Calls.{write_passed, write_accepted}

@@ -10,7 +10,7 @@ use Rattle.rules.specs.GridAndNearest.{grid_of}
 use Rattle.rules.specs.HandedOver.{IsF64}
 use Rattle.rules.specs.declared.BoundingBox.{BoundingBox}
 use Rattle.plate_laws.specs.Lists.{All}
-use Rattle.plate_laws.specs.Accepted.{Accepted}
+use Rattle.plate_laws.specs.AcceptedInput.{Accepted}
 use Rattle.rounding_errors.specs.Units.{positive_at}
 use Rattle.rounding_errors.specs.Boxes.{Sides, SoundBox, box_sides, accepted_sound}
 use Rattle.rounding_errors.specs.BoxGrid.{gridded}

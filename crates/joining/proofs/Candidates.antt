@@ -6,12 +6,13 @@ use Prim.Native.Nat.{ℕ, ◌+◌, ◌*◌, ◌≤◌, ◌<◌}
 use native.Mathlib.Omega.{arith}
 use lib.Ieee.{Float}
 use lib.ListN.{length}
+use Rattle.rules.specs.Limits.{most_points}
 use Rattle.rules.specs.HandedOver.{Plate, Contour}
 use Rattle.rules.specs.SamplesAndCache.{Waiting}
 use Rattle.rules.specs.Retrace.{closer, waiting_layer, choose}
 use Rattle.rules.specs.Marks.{Step}
 use Rattle.rules.specs.declared.SpatialGrid.{SpatialGrid}
-use Rattle.plate_laws.specs.Waiting.{Sane}
+use Rattle.plate_laws.specs.WaitingContours.{Sane}
 use Rattle.plate_laws.specs.Layers.{foremost_has}
 use Rattle.work_layout.specs.declared.Layout.{Layout}
 use Rattle.samples.specs.OwnerLaws.{sampled_length}
@@ -38,7 +39,7 @@ pub record InPlate (xs : List Float) (lay : Layout) (c : code.ContourRange) (v :
   pub low : c.first.0 ≤ v
   pub high : v ≤ c.first.0 + c.last
   pub points : c.first.0 + c.last < lay.points
-  pub small : c.first.0 + c.last < 65536
+  pub small : c.first.0 + c.last < most_points
   pub long : 2 * (c.first.0 + c.last) + 1 < length xs
 
 module _ {p : Plate} {g : SpatialGrid} {lay : Layout} {room turn count : ℕ} {path : List Float} {ms work : List ℕ} {ds : List Float}

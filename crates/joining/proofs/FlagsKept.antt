@@ -5,6 +5,7 @@ use Prim.Native.Nat.{ℕ, ◌+◌, ◌≤◌, ◌<◌}
 use native.Mathlib.Omega.{arith}
 use lib.Ieee.{Float}
 use lib.ListN.{length}
+use Rattle.rules.specs.Limits.{most_cells}
 use Rattle.rules.specs.SamplesAndCache.{Waiting}
 use Rattle.rules.specs.declared.SpatialGrid.{SpatialGrid}
 use Rattle.plate_laws.specs.Lists.{all_give}
@@ -37,7 +38,7 @@ flags_still lay work work' kept k l = kept (lay.flags + k) (omega arith)
 
 -- what is altered behind the links leaves a path as it was written
 pub pen_still : {g : SpatialGrid} {room count : ℕ} {path : List Float} {ms work work' : List ℕ} {a : ℕ} → Pen g room count path ms work →
-    KeptBelow a work work' → 2916 + room ≤ a → length work' ≡ length work → Pen g room count path ms work'
+    KeptBelow a work work' → most_cells + room ≤ a → length work' ≡ length work → Pen g room count path ms work'
 pen_still {g = g} {count = count} {path = path} {work = work} {work' = work'} {a = a} pen below l same =
     record {
       sane = pen.sane;

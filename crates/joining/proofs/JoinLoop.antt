@@ -8,6 +8,7 @@ use lib.Ieee.{Float}
 use lib.ListN.{length}
 use Rattle.std.specs.Prelude.{Some, None}
 use Rattle.std.specs.Prelude as prelude
+use Rattle.rules.specs.Limits.{most_cells}
 use Rattle.rules.specs.Tools.{without}
 use Rattle.rules.specs.HandedOver.{Plate, Contour, vertex_at}
 use Rattle.rules.specs.SamplesAndCache.{Waiting, update, cells_around}
@@ -95,7 +96,7 @@ module _ {xs : List Float} {ls : List ℕ} {g : SpatialGrid} {lay : Layout} {roo
         omega (arith, some_waiting p ws w chosen, j.turns)
 
     -- it is drawn
-    module _ {k'' : ℕ} {path'' : List Float} {ms'' work'' : List ℕ} (pen : Pen g room k'' path'' ms'' work'') (kept : KeptFrom (2916 + room) work' work'')
+    module _ {k'' : ℕ} {path'' : List Float} {ms'' work'' : List ℕ} (pen : Pen g room k'' path'' ms'' work'') (kept : KeptFrom (most_cells + room) work' work'')
         (same_work : length work'' ≡ length work')
         (drawn : (p : Plate) → p.points ≡ xs →
         Grows xs room k k'' path' path'' ms' ms'' (λ ss. entered p g ss (contour_of r.contour) (r.entry.0 - r.contour.first.0))) where

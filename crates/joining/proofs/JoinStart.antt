@@ -6,6 +6,7 @@ use native.Mathlib.Omega.{arith}
 use lib.Ieee.{Float}
 use lib.ListN.{length, length-map}
 use Rattle.std.specs.Prelude.{Result, Ok, Err, IsErr}
+use Rattle.rules.specs.Limits.{most_cells}
 use Rattle.rules.specs.Tools.{pick, without}
 use Rattle.rules.specs.HandedOver.{Plate, contours}
 use Rattle.rules.specs.Start.{Oriented}
@@ -17,8 +18,8 @@ use Rattle.rules.specs.declared.Point.{Point}
 use Rattle.rules.specs.declared.SpatialGrid.{SpatialGrid}
 use Rattle.plate_laws.specs.Lists.{all_of, all_map, all_without}
 use Rattle.plate_laws.specs.Contours.{contours_rise, all_contours}
-use Rattle.plate_laws.specs.Waiting.{Sane, waiting_sane, seed_caching, contours_waiting, contours_cached, contours_without, sane_cached, coming_without}
-use Rattle.plate_laws.specs.Waiting as joining
+use Rattle.plate_laws.specs.WaitingContours.{Sane, waiting_sane, seed_caching, contours_waiting, contours_cached, contours_without, sane_cached, coming_without}
+use Rattle.plate_laws.specs.WaitingContours as laws
 use Rattle.plate_laws.specs.Steps.{entry_in}
 use Rattle.work_layout.specs.Parts.{from, KeptBelow, KeptFrom}
 use Rattle.work_layout.specs.declared.Layout.{Layout}
@@ -63,12 +64,12 @@ begin_some s = omega (arith, emit_length start_kind s.contour (entry_of s) 0 (en
 -- the slices when s was drawn; `work` is the slice before that
 pub record StartDrawn (xs : List Float) (p : Plate) (g : SpatialGrid) (lay : Layout) (room : ℕ) (s : Oriented) (ds : List Float) (work : List ℕ)
     (count : ℕ) (was path : List Float) (marked ms work' : List ℕ) : Type 0 where
-  pub start : lay.flags ≡ 2916 + room
+  pub start : lay.flags ≡ most_cells + room
   pub prepared : Prepared xs g lay ds work
   pub flags : (k : ℕ) → k < lay.cells → from work lay.flags k ≡ 0
   pub lines : Lines xs g lay ds work (waiting_first p g s)
   pub pen : Pen g room count path ms work'
-  pub kept : KeptFrom (2916 + room) work work'
+  pub kept : KeptFrom (most_cells + room) work work'
   pub same : length work' ≡ length work
   pub wrote : Wrote xs (begin s) room count was path marked ms
 
@@ -119,7 +120,7 @@ module _ {xs : List Float} {p : Plate} {g : SpatialGrid} {lay : Layout} {room : 
     pub seeded_pen : Pen g room count path ms work''
     seeded_pen = pen_still b.pen below (omega (arith, still.plated.laid, b.start)) same''
 
-    seeded_contours : map joining.contour_of (seeded_first p g s) ≡ without contour_number s.contour.number (contours p)
+    seeded_contours : map laws.contour_waiting (seeded_first p g s) ≡ without contour_number s.contour.number (contours p)
     seeded_contours =
         contours_cached (seed p g (path_points p (begin s))) (seed_caching p g (path_points p (begin s))) (waiting_first p g s)
         ∙ contours_without s.contour.number (map (waiting p g) (contours p))

@@ -7,6 +7,7 @@ use lib.Ieee.{Float}
 use lib.ListN.{length}
 use Rattle.std.specs.Prelude.{Result, Ok, Err, IsErr, Some, None}
 use Rattle.std.specs.Prelude as prelude
+use Rattle.rules.specs.Limits.{most_cells}
 use Rattle.rules.specs.Tools.{without}
 use Rattle.rules.specs.HandedOver.{Plate, vertex_at}
 use Rattle.rules.specs.SamplesAndCache.{Waiting, update, cells_around}
@@ -14,7 +15,7 @@ use Rattle.rules.specs.Retrace.{waiting_number, entered}
 use Rattle.contours.specs.ContourOf.{contour_of}
 use Rattle.grid.specs.declared.Grid.{Grid}
 use Rattle.work_layout.specs.Parts.{from, KeptBelow, KeptFrom}
-use Rattle.samples.specs.declared.Frame.{Frame}
+use Rattle.frame.specs.declared.Frame.{Frame}
 use Rattle.prepare.specs.PreparedSlices.{Prepared}
 use Rattle.history.specs.History.{points}
 use Rattle.caches.specs.QueryNeeds.{Querying}
@@ -49,7 +50,7 @@ module _ {f : Frame} {ls : List ℕ} {w : PathWriter} {ds : List Float} {turn : 
   own_grid : w'.grid.spatial ≡ f.grid.spatial
   own_grid = ap (λ (z : Grid). z.spatial) h.same.grid ∙ h.grid
 
-  pub turn_apart : 2916 + w.room ≤ f.layout.flags
+  pub turn_apart : most_cells + w.room ≤ f.layout.flags
   turn_apart = let (p, ws, steps, was, marked, e, y, few, j) = h.looping.can in j.apart
 
   pub turn_fits : w'.count ≤ w.room
@@ -85,7 +86,7 @@ module _ {f : Frame} {ls : List ℕ} {w : PathWriter} {ds : List Float} {turn : 
       pen : Pen f.grid.spatial w.room k w''.path.now w''.marks.now w''.work.now
       pen = rw (own_grid, h.same.room) at written.pen
 
-      kept : KeptFrom (2916 + w.room) w'.work.now w''.work.now
+      kept : KeptFrom (most_cells + w.room) w'.work.now w''.work.now
       kept = rw h.same.room at written.kept
 
       drawn : (p : Plate) → p.points ≡ f.points.now →

@@ -6,6 +6,7 @@ use Prim.Native.Nat.{ℕ, suc, ◌+◌, ◌≤◌, ◌<◌}
 use native.Mathlib.Omega.{arith}
 use lib.Ieee.{Float}
 use lib.ListN.{length, length-map, length-append}
+use Rattle.rules.specs.Limits.{most_cells}
 use Rattle.rules.specs.Tools.{without}
 use Rattle.rules.specs.HandedOver.{Plate, Contour, vertex_at}
 use Rattle.rules.specs.SamplesAndCache.{Waiting, update, cells_around}
@@ -16,8 +17,8 @@ use Rattle.rules.specs.declared.SpatialGrid.{SpatialGrid}
 use Rattle.plate_laws.specs.Lists.{map-all, all_without}
 use Rattle.plate_laws.specs.Layers.{foremost_has}
 use Rattle.plate_laws.specs.Contours.{among_all, others, length_others}
-use Rattle.plate_laws.specs.Waiting.{Sane, update_caching, contours_cached, contours_without, sane_cached, coming_without}
-use Rattle.plate_laws.specs.Waiting as joining
+use Rattle.plate_laws.specs.WaitingContours.{Sane, update_caching, contours_cached, contours_without, sane_cached, coming_without}
+use Rattle.plate_laws.specs.WaitingContours as laws
 use Rattle.work_layout.specs.Parts.{from, KeptBelow, KeptFrom}
 use Rattle.work_layout.specs.declared.Layout.{Layout}
 use Rattle.prepare.specs.PreparedSlices.{Prepared}
@@ -36,7 +37,7 @@ use Rattle.joining.proofs.PathPrefix.{path_after, waiting_after, entered_begins,
 module _ {p : Plate} {g : SpatialGrid} {lay : Layout} {room turn count : ℕ} {path : List Float} {ms work : List ℕ} {ds : List Float}
     {ws : List Waiting} {steps : List Step} {was : List Float} {marked : List ℕ} (j : JoinState p g lay room turn count path ms work ds ws steps was marked) where
   -- the slices after the contour was drawn: nothing from the flags on is altered
-  module _ {k : ℕ} {path' : List Float} {ms' work' : List ℕ} (pen : Pen g room k path' ms' work') (kept : KeptFrom (2916 + room) work work')
+  module _ {k : ℕ} {path' : List Float} {ms' work' : List ℕ} (pen : Pen g room k path' ms' work') (kept : KeptFrom (most_cells + room) work work')
       (same : length work' ≡ length work) where
     above : KeptFrom lay.flags work work'
     above i l = kept i (omega (arith, j.apart))
@@ -66,13 +67,13 @@ module _ {p : Plate} {g : SpatialGrid} {lay : Layout} {room turn count : ℕ} {p
     abbrev cells : List ℕ
     cells = cells_around (vertex_at p w.contour) g w.contour.last
 
-    among : Among w.contour (map joining.contour_of ws)
+    among : Among w.contour (map laws.contour_waiting ws)
     unfolding choose
     among =
-        foremost_has (waiting_layer p) closer (λ v. Among v.contour (map joining.contour_of ws)) ws
-        (map-all (λ c. Among c (map joining.contour_of ws)) joining.contour_of ws (among_all _ (map joining.contour_of ws) (λ c m. m))) w chosen
+        foremost_has (waiting_layer p) closer (λ v. Among v.contour (map laws.contour_waiting ws)) ws
+        (map-all (λ c. Among c (map laws.contour_waiting ws)) laws.contour_waiting ws (among_all _ (map laws.contour_waiting ws) (λ c m. m))) w chosen
 
-    contours_after : map joining.contour_of after ≡ others w.contour (map joining.contour_of ws)
+    contours_after : map laws.contour_waiting after ≡ others w.contour (map laws.contour_waiting ws)
     unfolding waiting_number
     contours_after =
         contours_cached (update p g (path_points p next) cells) (update_caching p g (path_points p next) cells) (without waiting_number (waiting_number w) ws)
@@ -82,10 +83,10 @@ module _ {p : Plate} {g : SpatialGrid} {lay : Layout} {room turn count : ℕ} {p
     one_less =
         omega (
           arith,
-          length-map after joining.contour_of,
+          length-map after laws.contour_waiting,
           ap length contours_after,
-          length_others w.contour (map joining.contour_of ws) j.coming.rising among,
-          length-map ws joining.contour_of,
+          length_others w.contour (map laws.contour_waiting ws) j.coming.rising among,
+          length-map ws laws.contour_waiting,
         )
 
     pub join_next : join_all p g (length ws) ws steps ≡ join_all p g (length after) after next
@@ -111,7 +112,7 @@ module _ {p : Plate} {g : SpatialGrid} {lay : Layout} {room turn count : ℕ} {p
       seen fits = points_written p next room k was path' marked ms' next_wrote fits
 
       module _ {c : code.ContourRange} {v : ℕ} (e : Entry c v w) (fits : k ≤ room) {work' : List ℕ} (pen : Pen g room k path' ms' work')
-          (kept : KeptFrom (2916 + room) work work') (same : length work' ≡ length work) {ds'' : List Float} {work'' : List ℕ}
+          (kept : KeptFrom (most_cells + room) work work') (same : length work' ≡ length work) {ds'' : List Float} {work'' : List ℕ}
           (prepared : Prepared p.points g lay ds'' work'') (below : KeptBelow lay.flags work' work'')
           (flags : (f : ℕ) → f < lay.cells → from work'' lay.flags f ≤ turn + 1) (same'' : length work'' ≡ length work')
           (lines : Lines p.points g lay ds work' ws →
@@ -136,7 +137,7 @@ module _ {p : Plate} {g : SpatialGrid} {lay : Layout} {room turn count : ℕ} {p
               apart = j.apart;
               lines = lines_after;
               sane = sane_cached f (update_caching p g (path_points p next) cells) (without waiting_number (waiting_number w) ws) (all_without Sane waiting_number (waiting_number w) ws j.sane);
-              coming = rw contours_after (coming_without p w.contour.number (map joining.contour_of ws) j.coming);
+              coming = rw contours_after (coming_without p w.contour.number (map laws.contour_waiting ws) j.coming);
               turns = omega (arith, one_less, j.turns);
               flags = flags;
               wrote = next_wrote;

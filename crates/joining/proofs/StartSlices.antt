@@ -5,6 +5,7 @@ use Prim.Native.Nat.{ℕ, ◌≤◌, ◌<◌}
 use native.Mathlib.Omega.{arith}
 use lib.Ieee.{Float}
 use lib.ListN.{length, get_or}
+use Rattle.rules.specs.Limits.{most_cells}
 use Rattle.rules.specs.Tools.{without}
 use Rattle.rules.specs.HandedOver.{Plate, contours, contours_from}
 use Rattle.rules.specs.SamplesAndCache.{waiting}
@@ -32,7 +33,7 @@ pub record StartSlices (xs : List Float) (lengths : List ℕ) (g : SpatialGrid) 
   pub waits : (j : ℕ) → j < lay.contours → from w lay.waiting j ≡ get_or lengths j 0
   pub many : lay.contours ≡ length lengths
   pub inside : number < lay.contours
-  pub start : 2916 ≤ lay.flags
+  pub start : most_cells ≤ lay.flags
 
 module _ {xs : List Float} {lengths : List ℕ} {g : SpatialGrid} {lay : Layout} {w : List ℕ} {ds : List Float} {number : ℕ}
     (b : StartSlices xs lengths g lay w ds number) where

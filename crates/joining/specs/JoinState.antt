@@ -7,7 +7,7 @@ use Rattle.rules.specs.Retrace.{join_all}
 use Rattle.rules.specs.Marks.{Step}
 use Rattle.rules.specs.declared.SpatialGrid.{SpatialGrid}
 use Rattle.plate_laws.specs.Lists.{All}
-use Rattle.plate_laws.specs.Waiting.{Sane, Coming, contour_of}
+use Rattle.plate_laws.specs.WaitingContours.{Sane, Coming, contour_waiting}
 use Rattle.work_layout.specs.Parts.{from}
 use Rattle.work_layout.specs.declared.Layout.{Layout}
 use Rattle.prepare.specs.PreparedSlices.{Prepared}
@@ -26,7 +26,7 @@ pub record JoinState (p : Plate) (g : SpatialGrid) (lay : Layout) (room turn cou
   pub apart : most_cells + room ≤ lay.flags
   pub lines : Lines p.points g lay ds work ws
   pub sane : All Sane ws
-  pub coming : Coming p (map contour_of ws)
+  pub coming : Coming p (map contour_waiting ws)
   pub turns : length ws + turn ≤ lay.contours
   pub flags : (k : ℕ) → k < lay.cells → from work lay.flags k ≤ turn
   pub wrote : Wrote p.points steps room count was path marked ms

@@ -7,7 +7,7 @@ use Rattle.rules.specs.SamplesAndCache.{waiting}
 use Rattle.rules.specs.Retrace.{waiting_number}
 use Rattle.rules.specs.declared.Input.{Input}
 use Rattle.work_layout.specs.Parts.{from}
-use Rattle.samples.specs.declared.Frame.{Frame}
+use Rattle.frame.specs.declared.Frame.{Frame}
 use Rattle.prepare.specs.FrameSlices.{PreparedBy}
 use Rattle.joining.specs.Lines.{Lines}
 

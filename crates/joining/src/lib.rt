@@ -16,11 +16,11 @@ ghost use Rattle.joining.specs.JoinState.{CanJoin, JoinedByRules, path_count};
 use caches::{seed_caches, set_up, settle};
 use contours::first_end;
 use emission::{emit, enter};
+use frame::Frame;
 use grid::{Grid, polyline_bounding_box};
 use path_points::{Full, PathWriter};
 use plate::checked_input::{CheckedInput, PlatePoints};
 use rules::Mark;
-use samples::Frame;
 use start::{OrientedContour, choose_start_contour};
 use waiting::{choose_waiting, stop_waiting};
 

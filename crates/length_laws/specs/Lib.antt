@@ -1,6 +1,6 @@
 pub mod EitherWay
 pub mod EitherEnd
 pub mod Roots
-pub mod Truncated
-pub mod Adding
-pub mod Walked
+pub mod WholePart
+pub mod RunningTotals
+pub mod WalkedPath

@@ -12,7 +12,7 @@ use Rattle.statement.specs.Division.{itself, Cut}
 use Rattle.rules.specs.Contours.{contour_count}
 use Rattle.plate_laws.specs.Lists.{all_up_from}
 use Rattle.plate_laws.specs.Sums.{sum_zeros, sum_same}
-use Rattle.plate_laws.specs.Accepted.{Measurable}
+use Rattle.plate_laws.specs.AcceptedInput.{Measurable}
 use Rattle.plate_laws.specs.Start.{AllTakePart}
 use Rattle.path.specs.Pairs.{PlatePair, Divided, divided_some, divided_start, divided_pairs}
 use Rattle.path.specs.JumpsAndTouches.{retrace_divided}
@@ -96,7 +96,7 @@ module _ (p : Plate) (path : List Step) (d : Divided p path) where
   start_weighs = rw (divided_start p path d).kind
 
   -- the start weighs nothing, and each other step what its pair adds
-  pub cuts_along : length_along is_cut (length path) xs (marks path) ≡ sum (map (weight p) path)
+  cuts_along : length_along is_cut (length path) xs (marks path) ≡ sum (map (weight p) path)
   unfolding length_along sum step_at
   cuts_along =
       let m = length path - 1 in
@@ -115,7 +115,7 @@ module _ (p : Plate) (path : List Step) (d : Divided p path) where
       rw (kind_at_lem path (suc k) h, point_is p.points path k (omega arith), point_is p.points path (suc k) h)
       (touch_of p (vertex_of path) k _ _ (divided_pairs p path d k h))
 
-  pub touches_along : length_along is_touch (length path) xs (marks path) ≡ 0
+  touches_along : length_along is_touch (length path) xs (marks path) ≡ 0
   unfolding length_along
   touches_along = sum_zeros _ (up_from 0 (length path - 1)) (all_up_from _ 0 (length path - 1) (λ k a b. touch_adds k (omega arith)))
 

@@ -13,39 +13,33 @@
 -- The first part is how path and marks were written (crates/path, Slices and Theorem). The others are proved in ByContours: by the path statement each cut is a
 -- segment in one of its two senses, and as long in either (EitherEnd); the path has each segment once (crates/path, Shares); and a touch goes between equal points
 -- (Touches). Assumes nothing.
-use Rattle.std.specs.Prelude.{◌≡◌, ℕ, ◌*◌, length}
-use Rattle.std.proofs.Common.{sym, ap, ◌∙◌, arith}
-use Rattle.rules.specs.HandedOver.{retrace_room}
+use Rattle.std.specs.Prelude.{ℕ}
+use Rattle.std.proofs.Common.{sym, ap, ◌∙◌}
 use Rattle.rules.specs.Retrace.{retrace}
 use Rattle.rules.specs.Marks.{coordinates, marks, vertices}
 use Rattle.rules.specs.Lengths.{is_touch, length_along}
-use Rattle.rules.specs.Calls.{totals, path_totals, retrace_call}
+use Rattle.rules.specs.Calls.{totals, path_totals}
 use Rattle.statement.specs.HowNear.{IsAccepted}
 use Rattle.statement.specs.Quotation.{LengthStatement, LengthsByRules}
 use Rattle.rules.specs.declared.Totals.{Totals}
-use Rattle.plate_laws.specs.Accepted.{input_gives, accepted_measurable}
+use Rattle.plate_laws.specs.AcceptedInput.{input_gives, accepted_measurable}
 use Rattle.plate_laws.specs.Start.{layered_part}
-use Rattle.plate_laws.specs.Slices.{coordinates_length, marks_length, vertices_length}
-use Rattle.path.specs.Theorem.{retrace_gives, slice_after}
+use Rattle.path.specs.Theorem.{retrace_gives, retrace_leaves}
 use Rattle.lengths.specs.ByContours.{retrace_summed}
 
 pub length_statement : LengthStatement
-unfolding LengthStatement retrace_call totals path_totals
+unfolding LengthStatement totals path_totals
 length_statement p path ms w d c e =
     let (accepted, part, counted) = retrace_gives p path ms w d c e in
+    let l = retrace_leaves p path ms w d c e in
     let r = retrace p in
-    let a = (retrace_call p path ms w d).answer in
-    let room = retrace_room (length path) (length ms) in
-    let n : c.points ≡ length r = ap (λ (x : Totals). x.points) counted in
     let xs = coordinates p.points (vertices r) in
-    let x = slice_after a c room (2 * c.points) xs path e (omega (arith, coordinates_length p.points (vertices r), vertices_length r)) in
-    let y = slice_after a c room (2 * c.points) (marks r) ms e (omega (arith, marks_length r)) in
     let summed = retrace_summed p (accepted_measurable p accepted) part in
-    rw (x.1, y.1)
+    rw (l.path_front, l.marks_front)
     (record {
-      along = counted ∙ ap (λ (k : ℕ). totals k xs (marks r)) (sym n);
+      along = counted ∙ ap (λ (k : ℕ). totals k xs (marks r)) (sym l.points);
       by_contours = ap (λ (x : Totals). x.cut_length) counted ∙ summed.cuts;
-      touches = ap (λ (k : ℕ). length_along is_touch k xs (marks r)) n ∙ summed.touches;
+      touches = ap (λ (k : ℕ). length_along is_touch k xs (marks r)) l.points ∙ summed.touches;
     })
 
 pub lengths_by_rules : LengthsByRules

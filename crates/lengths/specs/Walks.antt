@@ -7,13 +7,13 @@ use Rattle.rules.specs.Retrace.{vertex_of, retrace}
 use Rattle.rules.specs.Marks.{back_step_kind, Step, coordinates, marks, vertices}
 use Rattle.statement.specs.Division.{BackStep}
 use Rattle.rules.specs.Contours.{contour_count}
-use Rattle.plate_laws.specs.Accepted.{Accepted, accepted_measurable, point_on, OfPlate}
+use Rattle.plate_laws.specs.AcceptedInput.{Accepted, accepted_measurable, point_on, OfPlate}
 use Rattle.plate_laws.specs.Start.{AllTakePart}
 use Rattle.path.specs.Pairs.{PlatePair, Divided, divided_start, divided_pairs}
 use Rattle.path.specs.JumpsAndTouches.{vertex_has, Numbered, retrace_divided, retrace_numbered}
 use Rattle.plate_laws.specs.Slices.{coordinates_length, marks_length, vertices_length, kind_at_lem, reference_at_lem, point_is}
 use Rattle.path.specs.Blank.{retrace_empty}
-use Rattle.length_laws.specs.Walked.{PointOnPlate, Walked}
+use Rattle.length_laws.specs.WalkedPath.{PointOnPlate, Walked}
 
 -- ---- a path of steps
 

@@ -2,7 +2,7 @@
 #![tactic(auto)]
 
 ghost use Rattle.std.specs.Prelude.{◌≡◌, ◌+◌, ◌*◌, ◌<◌, ◌≤◌, ◌↔◌, length, IsSome, IfSome};
-ghost use Rattle.rules.specs.Marks.{kind_of, reference_of, landing_kind, kind_at, reference_at};
+ghost use Rattle.rules.specs.Marks.{touch_kind, kind_of, reference_of, landing_kind, kind_at, reference_at};
 
 use rules::{Mark, Point, Vertex};
 
@@ -10,7 +10,7 @@ use rules::{Mark, Point, Vertex};
 #[tactic(auto, unfolding(rules::specs::Marks::kind_at, rules::specs::Marks::reference_at))]
 pub fn mark_at(marks: &[u32], i: usize) -> Option<Mark>
     requires { 2 * i + 1 < length marks.now }
-    ensures known { IsSome result ↔ (kind_at marks.now i ≤ 4) }
+    ensures known { IsSome result ↔ (kind_at marks.now i ≤ touch_kind) }
     ensures numbers { IfSome result (λ m. (kind_of m ≡ kind_at marks.now i) × (reference_of m ≡ reference_at marks.now i)) }
 {
     Mark::from_numbers(marks[2 * i], marks[2 * i + 1])

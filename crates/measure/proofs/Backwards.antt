@@ -4,7 +4,7 @@ use Rattle.rules.specs.HandedOver.{at}
 use Rattle.rules.specs.Marks.{back_step_kind, kind_at, reference_at}
 use Rattle.rules.specs.Lengths.{pair_length}
 use Rattle.statement.specs.Division.{BackStep}
-use Rattle.length_laws.specs.Walked.{Walked}
+use Rattle.length_laws.specs.WalkedPath.{Walked}
 use Rattle.length_laws.specs.EitherEnd.{pair_swap}
 use Rattle.measure.specs.LengthsKept.{LengthsKept}
 

@@ -6,8 +6,8 @@ use Rattle.rules.specs.Marks.{start_kind, kind_at}
 use Rattle.rules.specs.Lengths.{pair_length}
 use Rattle.rules.specs.Calls.{totals}
 use Rattle.rules.specs.declared.Totals.{Totals}
-use Rattle.length_laws.specs.Walked.{Walked}
-use Rattle.length_laws.specs.Adding.{so_far, none_counted, added, so_far_start, so_far_none, so_far_step, so_far_all, ShortPairs, Within}
+use Rattle.length_laws.specs.WalkedPath.{Walked}
+use Rattle.length_laws.specs.RunningTotals.{so_far, none_counted, added, so_far_start, so_far_none, so_far_step, so_far_all, ShortPairs, Within}
 use Rattle.measure.specs.LengthsKept.{LengthsKept}
 
 -- counts and lengths of nothing

@@ -6,8 +6,8 @@ ghost use Rattle.rules.specs.Limits.{most_path_points};
 ghost use Rattle.rules.specs.HandedOver.{at};
 ghost use Rattle.rules.specs.Lengths as rule;
 ghost use Rattle.rules.specs.Calls as calls;
-ghost use Rattle.length_laws.specs.Walked.{PointOnPlate, Walked};
-ghost use Rattle.length_laws.specs.Adding.{added, Within};
+ghost use Rattle.length_laws.specs.WalkedPath.{PointOnPlate, Walked};
+ghost use Rattle.length_laws.specs.RunningTotals.{added, Within};
 ghost use Rattle.measure.specs.LengthsKept.{LengthsKept};
 
 use magnitude::cast::truncated;

@@ -16,7 +16,7 @@ use Rattle.statement.specs.Division.{IsJumpOrTouch}
 use Rattle.rules.specs.Contours.{contour_count, IsContour}
 use Rattle.statement.specs.HowNear.{NearlyAtMost}
 use Rattle.plate_laws.specs.Lists.{All, all_of, all_give, all_append, all_map, all-places}
-use Rattle.plate_laws.specs.Accepted.{OfPlate}
+use Rattle.plate_laws.specs.AcceptedInput.{OfPlate}
 use Rattle.plate_laws.specs.Nearest.{point_of, points_length, points_at, grid_for, found_for, found_in}
 use Rattle.plate_laws.specs.Contours.{all_among, contour_in}
 use Rattle.plate_laws.specs.Start.{AllTakePart}

@@ -20,16 +20,16 @@ use Rattle.rules.specs.HandedOver.{IsF64, AllF64, Plate, at, Answer, gives, refu
 use Rattle.rules.specs.Box.{box}
 use Rattle.rules.specs.Retrace.{vertex_of, retrace}
 use Rattle.rules.specs.Marks.{coordinates, marks, kind_at, vertices}
-use Rattle.rules.specs.Calls.{totals, path_totals, retrace_call}
+use Rattle.rules.specs.Calls.{retrace_call}
 use Rattle.statement.specs.Division.{IsJumpOrTouch}
 use Rattle.statement.specs.HowNear.{LandingsNear, written_points, IsAccepted, HowNearByRules, HowNear}
 use Rattle.rules.specs.declared.Totals.{Totals}
 use Rattle.plate_laws.specs.Lists.{All, all-at, all-places}
-use Rattle.plate_laws.specs.Accepted.{Accepted, input_gives, OfPlate, point_on}
+use Rattle.plate_laws.specs.AcceptedInput.{Accepted, input_gives, OfPlate, point_on}
 use Rattle.plate_laws.specs.Start.{AllTakePart, layered_part}
 use Rattle.plate_laws.specs.Nearest.{grid_for}
 use Rattle.plate_laws.specs.Slices.{coordinates_length, marks_length, vertices_length, kind_at_lem, point_is}
-use Rattle.path.specs.Theorem.{retrace_gives, retrace_full, slice_after, slice_begun}
+use Rattle.path.specs.Theorem.{retrace_gives, retrace_full, slice_begun, retrace_leaves}
 use Rattle.path.specs.WrittenDivision.{at_take, kind_take}
 use Rattle.rounding_errors.specs.Boxes.{box_sides, accepted_sound}
 use Rattle.rounding_errors.specs.BoxGrid.{SoundGrid, gridded}
@@ -112,16 +112,13 @@ module _ (p : Plate) (path : List Float) (ms : List ℕ) (w d : ℕ) (f64 : AllF
 
   near_result : (c : Totals) → (retrace_call p path ms w d).answer ≡ gives c →
       LandingsNear (retrace_call p path ms w d).path (retrace_call p path ms w d).marks c.points
-  unfolding retrace_call totals path_totals
   near_result c e =
       let (accepted, part, counted) = retrace_gives p path ms w d c e in
+      let l = retrace_leaves p path ms w d c e in
       let r = retrace p in
-      let n : c.points ≡ length r = ap (λ (z : Totals). z.points) counted in
-      let x : length xs ≡ 2 * c.points = omega (arith, xs_length, n) in
-      let y : length (marks r) ≡ 2 * c.points = omega (arith, marks_length r, n) in
-      near_begun _ xs _ (marks r) c.points (length r) (omega (arith, n))
-      ((slice_after _ c room (2 * c.points) xs path e x).1 ∙ sym (take_all (2 * c.points) xs (omega (arith, x))))
-      ((slice_after _ c room (2 * c.points) (marks r) ms e y).1 ∙ sym (take_all (2 * c.points) (marks r) (omega (arith, y))))
+      near_begun _ xs _ (marks r) c.points (length r) (omega (arith, l.points))
+      (l.path_front ∙ sym (take_all (2 * c.points) xs (omega (arith, xs_length, l.points))))
+      (l.marks_front ∙ sym (take_all (2 * c.points) (marks r) (omega (arith, marks_length r, l.points))))
       (landings_near p f64 own accepted part)
 
   near_full : (k : ℕ) → (retrace_call p path ms w d).answer ≡ refuses 6 k →

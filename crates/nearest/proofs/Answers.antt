@@ -15,7 +15,7 @@ use Rattle.rules.specs.declared.Nearest.{Nearest}
 use Rattle.rules.specs.declared.Nearest.TheVariants.{Found, Nothing}
 use Rattle.plate_laws.specs.FloatOrder.{Plus}
 use Rattle.plate_laws.specs.FiniteDistances.{OnPlate, distance_plus}
-use Rattle.chains.specs.Hits.{Hit, miss, hit, beats, better}
+use Rattle.chains.specs.Hits.{Hit, miss, hit, hit_beats, better}
 use Rattle.nearest.proofs.Rank.{rank, lt_rank, eq_rank, rank_one}
 
 -- a squared distance: finite, its sign plus, and an f64
@@ -53,8 +53,8 @@ distance_squared_lem q p hq hp = record { plus = distance_plus q p hq.0 hq.1 hp.
 -- ---- one more path point
 
 wins_beats : (c : PathPoint) (i : ℕ) (d : Float) → SquaredDistance c.squared → SquaredDistance d →
-    wins c i d ≡ beats c.place (rank binary64 c.squared) i (rank binary64 d)
-unfolding wins beats
+    wins c i d ≡ hit_beats c.place (rank binary64 c.squared) i (rank binary64 d)
+unfolding wins hit_beats
 wins_beats c i d hc hd =
     rw (lt_rank binary64 c.squared d hc.plus hd.plus hc.holds hd.holds, eq_rank binary64 c.squared d hc.plus hd.plus hc.holds hd.holds)
 

@@ -6,6 +6,7 @@ use mathlib.Core.Logic.{inl}
 use Prim.Native.Nat.{ℕ, ◌+◌, ◌-◌, ◌≤◌, ◌<◌, max}
 use native.Mathlib.Omega.{arith}
 use lib.Ieee.{Float}
+use Rattle.rules.specs.Limits.{most_cells}
 use Rattle.rules.specs.HandedOver.{at}
 use Rattle.rules.specs.GridAndNearest.{Cell, cell_of, Square, square, seen_from, nearer, beyond, scan_from, nearest}
 use Rattle.rules.specs.SamplesAndCache.{cell_number, cell_at}
@@ -75,7 +76,7 @@ Asked g path work count q = Ready g path work count × SaneGrid g × (OnPlate q.
 module _ {g : SpatialGrid} {path : List Float} {work : List ℕ} {count : ℕ} (q : Point) (asked : Asked g path work count q) where
   -- the chain of a cell of the grid
   module _ (c : Cell) (hc : c.col < g.cols) (hr : c.row < g.rows) where
-    number_in : cell_number g c < 2916
+    number_in : cell_number g c < most_cells
     unfolding cell_number
     number_in = (number_below g asked.1 c.col c.row hc hr).1
 
@@ -83,13 +84,13 @@ module _ {g : SpatialGrid} {path : List Float} {work : List ℕ} {count : ℕ} (
     cell_start best h =
         record {
           squared = h;
-          walking = walk_start (head_in work) (link_in work) 2916 (cell_at (at path) g) count (cell_number g c) asked.0.chains number_in (key_at path q) (ranked best);
+          walking = walk_start (head_in work) (link_in work) most_cells (cell_at (at path) g) count (cell_number g c) asked.0.chains number_in (key_at path q) (ranked best);
         }
 
     module _ (before best : Nearest) (cursor : ℕ) (i : InCell g path count q c before best cursor) (some : cursor ≡ 0 → ⊥) where
       pub cell_falls : link_in work (cursor - 1) < cursor
       cell_falls =
-          walk_falls (head_in work) (link_in work) 2916 (cell_at (at path) g) count (cell_number g c) asked.0.chains number_in (key_at path q) _ (ranked best) cursor
+          walk_falls (head_in work) (link_in work) most_cells (cell_at (at path) g) count (cell_number g c) asked.0.chains number_in (key_at path q) _ (ranked best) cursor
           i.walking some
 
       pub cell_next : (r : Nearest) → r ≡ nearer best (seen g q (cursor - 1) (at path (cursor - 1))) →
@@ -103,7 +104,7 @@ module _ {g : SpatialGrid} {path : List Float} {work : List ℕ} {count : ℕ} (
           record {
             squared = n.1;
             walking =
-                walk_next (head_in work) (link_in work) 2916 (cell_at (at path) g) count (cell_number g c) asked.0.chains number_in (key_at path q) _ (ranked best) cursor
+                walk_next (head_in work) (link_in work) most_cells (cell_at (at path) g) count (cell_number g c) asked.0.chains number_in (key_at path q) _ (ranked best) cursor
                 i.walking some _ n.0;
           }
 

@@ -1,19 +1,20 @@
 -- A finite number with a clear sign, counted in its format's smallest steps: comparisons of such numbers are those of the counts.
 -- Assumes nothing.
 use mathlib.Core.Path.{◌≡◌, sym, ap, ◌∙◌}
-use mathlib.Core.Bool.{true, false, ◌&&◌, and-true}
-use Prim.Native.Nat.{ℕ, zero, suc, ◌+◌, ◌-◌, ◌*◌, ◌/◌, ◌%◌, ◌^◌, ◌≤◌, ◌<◌}
-use native.Mathlib.Nat.{mul_assoc, mul_comm, mul_right_comm, mul-one, one-mul, mul-div_cancel, mul-le-mul_right, mul-lt-mul_of_pos_right, mul-pos, lt_of_mul-lt-mul_right, le_of_mul-le-mul_right, eq_of_mul-eq-mul_right}
+use mathlib.Core.Bool.{true, false, and-true}
+use Prim.Native.Nat.{ℕ, ◌+◌, ◌-◌, ◌*◌, ◌/◌, ◌^◌, ◌≤◌, ◌<◌}
+use native.Mathlib.Nat.{mul_assoc, mul_comm, mul_right_comm, mul-div_cancel, mul-le-mul_right, mul-lt-mul_of_pos_right, mul-pos, lt_of_mul-lt-mul_right, le_of_mul-le-mul_right, eq_of_mul-eq-mul_right}
 use native.Mathlib.Decide.{dec_lt, ℕ_discrete}
 use native.Mathlib.Omega.{arith}
 use borrow.Author.Tests.{lt-ltb, le-ltb, eq-eqb, ne_eqb}
-use lib.Dec.{T, ltb, leb, eqb, leb→le, eqb→eq}
-use lib.IntN.{ℤ, pos, negsuc}
-use lib.Pow.{pow_pos, pow-lt, pow-add}
-use lib.Ieee.{Float, nan, inf, fin, Format, low, prec, emax, hid, size, up, down, fits, lt, eq, to_bits, of_bits}
+use lib.Dec.{T, ltb, eqb}
+use lib.IntN.{ℤ}
+use lib.Pow.{pow_pos}
+use lib.Ieee.{Float, nan, inf, fin, Format, low, prec, hid, size, up, down, fits, lt, eq, to_bits, of_bits}
 use lib.Ieee.Bits.{of_bits-to_bits}
-use lib.Ieee.Fits.{up_pos, down_pos, and_l, and_r}
+use lib.Ieee.Fits.{down_pos}
 use Rattle.plate_laws.specs.FloatOrder.{Plus}
+use Rattle.rounding_errors.specs.Units.{down_le, unit_of}
 
 unfoldable pub rank : Format → Float → ℕ
 rank f nan = 0
@@ -46,33 +47,10 @@ eqb_alike a b r s c w hc hw ha hb = go (ℕ_discrete a b)
         ∙ sym (ne_eqb r s (λ q. l (eq_of_mul-eq-mul_right w hw a b (ha ∙ ap (λ (n : ℕ). n * c) q ∙ sym hb))))
 
 module _ (f : Format) where
-  -- ---- a number of the format is a whole number of smallest steps
-
-  down_le : (m : ℕ) (e : ℤ) → T (fits f (fin false m e)) → down e ≤ 2 ^ low f
-  unfolding fits
-  down_le zero e h =
-      let w : up e * down e ≡ 1 = eqb→eq (up e * down e) 1 h in
-      let v : 1 * down e ≤ up e * down e = mul-le-mul_right (down e) (up_pos e) in
-      omega (arith, w, v, one-mul (down e), pow_pos (low f))
-  down_le (suc m) e h =
-      let odd = eqb (suc m % 2) 1 && ltb (suc m) (2 ^ prec f) in
-      let fine = leb (down e) (2 ^ low f) in
-      leb→le (down e) (2 ^ low f) (and_r odd fine (and_l (odd && fine) (ltb (suc m * up e) (2 ^ suc (emax f) * down e)) h))
-
-  whole : (e : ℤ) → down e ≤ 2 ^ low f → (q : ℕ) × (2 ^ low f ≡ q * down e)
-  whole (pos k) h = (2 ^ low f, sym (mul-one (2 ^ low f)))
-  whole (negsuc k) h = go (dec_lt (low f) (suc k))
-    where
-      go : Dec (low f < suc k) → (q : ℕ) × (2 ^ low f ≡ q * 2 ^ suc k)
-      go (yes l) = absurd (omega (arith, pow-lt l))
-      go (no l) =
-          let w : low f - suc k + suc k ≡ low f = omega arith in
-          (2 ^ (low f - suc k), ap (λ (n : ℕ). 2 ^ n) (sym w) ∙ pow-add 2 (low f - suc k) (suc k))
-
   rank_value : (m : ℕ) (e : ℤ) → T (fits f (fin false m e)) → rank f (fin false m e) * down e ≡ m * up e * 2 ^ low f
   unfolding rank
   rank_value m e h =
-      let w = whole e (down_le m e h) in
+      let w = unit_of f e (down_le f false m e h) in
       let v : m * up e * 2 ^ low f ≡ m * up e * w.0 * down e =
       ap (λ (n : ℕ). m * up e * n) w.1 ∙ sym (mul_assoc (m * up e) w.0 (down e)) in
       ap (λ (n : ℕ). n / down e * down e) v ∙ ap (λ (n : ℕ). n * down e) (mul-div_cancel (m * up e * w.0) (down_pos e)) ∙ sym v

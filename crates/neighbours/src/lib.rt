@@ -12,10 +12,10 @@ ghost use Rattle.samples.specs.Vertices.{vertex_from};
 ghost use Rattle.neighbours.specs.CellList.{Listing, Lists};
 
 use contours::ContourRange;
+use frame::Frame;
 use grid::{Grid, GridCell};
 use rings::square_of;
 use rules::{Vertex, point_at};
-use samples::Frame;
 use work_layout::Layout;
 
 // Lists a cell unless it is listed: its flag is this turn's number then. The answer is how many are listed.

@@ -19,7 +19,7 @@ use Rattle.rules.specs.OrderAndStraight.{nearer_sense, nearer_end}
 use Rattle.rules.specs.declared.Point.{Point}
 use Rattle.plate_laws.specs.Layers.{leads_in, taking_low, taking_high}
 use Rattle.plate_laws.proofs.Layers.{beats_lower, beats_higher, beats_alike}
-use Rattle.plate_laws.specs.Ordering.{nearer_contour}
+use Rattle.plate_laws.specs.OrderTotals.{nearer_contour}
 use Rattle.point.specs.Bound.{above_not_below}
 use Rattle.start.specs.OrientedContours.{oriented_of}
 use Rattle.start.specs.declared.OrientedContour.{OrientedContour}

@@ -18,8 +18,8 @@ use Rattle.rules.specs.declared.Point.{Point}
 use Rattle.plate_laws.specs.Lists.{All, all-at, all_without}
 use Rattle.plate_laws.specs.Layers.{foremost_has}
 use Rattle.plate_laws.specs.Contours.{Rising, others, others_at, rising_without, contours_rise}
-use Rattle.plate_laws.specs.Accepted.{Accepted}
-use Rattle.plate_laws.specs.Ordering.{all_nearer, after_next}
+use Rattle.plate_laws.specs.AcceptedInput.{Accepted}
+use Rattle.plate_laws.specs.OrderTotals.{all_nearer, after_next}
 use Rattle.packed_contours.specs.PackedNumbers.{packed, packed_sense, InLengths}
 use Rattle.packed_contours.specs.Contours.{all_placed}
 use Rattle.optimize.specs.State.{State, Whole}

@@ -6,7 +6,7 @@ ghost use Rattle.std.proofs.Math.Option.{some};
 ghost use Rattle.rules.specs.HandedOver.{Plate, plate_of, contours};
 ghost use Rattle.rules.specs.Start.{start};
 ghost use Rattle.rules.specs.OrderAndStraight.{last_end, order};
-ghost use Rattle.plate_laws.specs.Accepted.{Accepted};
+ghost use Rattle.plate_laws.specs.AcceptedInput.{Accepted};
 ghost use Rattle.start.specs.OrientedContours.{oriented_of};
 ghost use Rattle.contours.specs.ContourOf.{InRange, InSlice, contour_of};
 ghost use Rattle.packed_contours.specs.PackedNumbers.{packed, packed_sense};

@@ -10,9 +10,9 @@ use Rattle.rules.specs.HandedOver.{Plate}
 use Rattle.rules.specs.Start.{Oriented}
 use Rattle.rules.specs.OrderAndStraight.{order, entries}
 use Rattle.plate_laws.specs.Lists.{All}
-use Rattle.plate_laws.specs.Accepted.{Accepted, Layered}
+use Rattle.plate_laws.specs.AcceptedInput.{Accepted, Layered}
 use Rattle.plate_laws.specs.Start.{layered_part}
-use Rattle.plate_laws.specs.Ordering.{order_few}
+use Rattle.plate_laws.specs.OrderTotals.{order_few}
 use Rattle.slices.specs.Over.{take_min}
 use Rattle.slices.specs.Pairs.{pairs, pairs_take}
 use Rattle.packed_contours.specs.PackedNumbers.{packed_sense, number_in}

@@ -1,15 +1,14 @@
 -- What is read off a packed contour in its sense is the contour; so of all that an order has. Assumes nothing.
-use Rattle.std.specs.Prelude.{◌≡◌, Bool, true, false, List, map, ℕ, ◌+◌, ◌*◌, ◌/◌, ◌≤◌, ◌<◌, eqb, length, take}
-use Rattle.std.proofs.Common.{refl, ap, arith, length-take}
-use Rattle.std.proofs.lemmas.List.{length-map}
+use Rattle.std.specs.Prelude.{◌≡◌, Bool, true, false, List, ℕ, ◌+◌, ◌*◌, ◌/◌, ◌<◌, eqb}
+use Rattle.std.proofs.Common.{refl, arith}
 use Rattle.rules.specs.Tools.{pick}
 use Rattle.rules.specs.Limits.{most_contours, most_points}
 use Rattle.rules.specs.HandedOver.{Plate}
 use Rattle.rules.specs.Start.{Oriented}
 use Rattle.rules.specs.OrderAndStraight.{order}
 use Rattle.plate_laws.specs.Lists.{All, all_give}
-use Rattle.plate_laws.specs.Accepted.{Accepted}
-use Rattle.plate_laws.specs.Ordering.{order_has}
+use Rattle.plate_laws.specs.AcceptedInput.{Accepted}
+use Rattle.plate_laws.specs.OrderTotals.{order_has}
 use Rattle.packed_contours.specs.PackedNumbers.{number_unit, sense_unit, packed, packed_sense, number_in, first_in, InLengths}
 use Rattle.packed_contours.specs.Contours.{all_placed}
 
@@ -20,6 +19,12 @@ sense_in word = word / sense_unit
 -- whether it is
 abbrev pub reversed_in : ℕ → Bool
 reversed_in word = eqb (sense_in word) 1
+
+-- a number, a first vertex and a sense are those of a word
+pub record UnpackedFrom (word n v : ℕ) (b : Bool) : Type 0 where
+  pub number : n ≡ number_in word
+  pub first : v ≡ first_in word
+  pub reversed : b ≡ reversed_in word
 
 pub sense_is : (b : Bool) → eqb (pick b 1 0) 1 ≡ b
 unfolding pick
@@ -48,7 +53,3 @@ unpacked ns s h =
 
 pub order_unpacked : (p : Plate) → Accepted p.points p.lengths → All (Unpacked p.lengths) (order p)
 order_unpacked p a = all_give _ _ (unpacked p.lengths) (order p) (order_has (InLengths p.lengths) p (all_placed p a))
-
--- the words of a list of contours are all there
-pub words_there : (n : ℕ) (work : List ℕ) (ss : List Oriented) → n ≡ length ss → take n work ≡ map packed_sense ss → n ≤ length work
-words_there n work ss e f = omega (arith, ap length f, length-take n work, length-map ss packed_sense)

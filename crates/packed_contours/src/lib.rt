@@ -6,7 +6,7 @@ ghost use Rattle.rules.specs.Limits.{most_contours, most_points};
 ghost use Rattle.rules.specs.Tools.{pick, sum};
 ghost use Rattle.rules.specs.HandedOver.{contours_from, over};
 ghost use Rattle.packed_contours.specs.PackedNumbers.{number_unit, sense_unit, packed, number_in, first_in};
-ghost use Rattle.packed_contours.specs.UnpackedNumbers.{reversed_in};
+ghost use Rattle.packed_contours.specs.UnpackedNumbers.{UnpackedFrom};
 
 use contours::{ContourRange, Contours};
 use rules::Vertex;
@@ -44,7 +44,7 @@ impl Packed {
 }
 
 impl From<u32> for Packed {
-    ghost from_gives = { λ word p. (p.number ≡ number_in word) × (p.first.0 ≡ first_in word) × (p.reversed ≡ reversed_in word) };
+    ghost from_gives = { λ word p. UnpackedFrom word p.number p.first.0 p.reversed };
 
     fn from(word: u32) -> Packed {
         Packed {

@@ -10,7 +10,7 @@ use Rattle.rules.specs.Calls.{totals, path_totals}
 use Rattle.statement.specs.PathStatement.{BlankStatement}
 use Rattle.rules.specs.Contours.{contour_count}
 use Rattle.plate_laws.specs.Lists.{empty}
-use Rattle.plate_laws.specs.Ordering.{no_start}
+use Rattle.plate_laws.specs.OrderTotals.{no_start}
 use Rattle.path.specs.Theorem.{retrace_gives}
 
 pub retrace_empty : (p : Plate) → contours p ≡ [] → retrace p ≡ []

@@ -18,7 +18,7 @@ use Rattle.plate_laws.specs.Lists.{All, all_of, all_map, map-all, all_without}
 use Rattle.plate_laws.specs.Layers.{foremost_has, foremost_some, foremost_low}
 use Rattle.plate_laws.specs.Nearest.{grid_for}
 use Rattle.plate_laws.specs.Contours.{among_all, others, length_others, contours_rise, all_contours}
-use Rattle.plate_laws.specs.Waiting.{Sane, waiting_sane, seed_caching, update_caching, contour_of, Coming, contours_waiting, contours_without, contours_cached, part_cached, sane_cached, coming_without}
+use Rattle.plate_laws.specs.WaitingContours.{Sane, waiting_sane, seed_caching, update_caching, contour_waiting, Coming, contours_waiting, contours_without, contours_cached, part_cached, sane_cached, coming_without}
 use Rattle.plate_laws.specs.Start.{AllTakePart, start_some, NoneLower, start_low, start_is}
 
 -- P says something of the contours still to come and of the path so far. It holds of the start, whichever contour that is, if none
@@ -38,25 +38,25 @@ module _ (p : Plate) (P : List Contour → List Step → Type 0) (begins : Begin
   -- n more contours, which are all that wait
   abbrev Keeps : ℕ → List Waiting → List Step → Type 0
   Keeps n ws path =
-      length ws ≡ n → All (λ w. layer_at p w.contour ≤ highest_layer) ws → All Sane ws → Coming p (map contour_of ws) → P (map contour_of ws) path → P [] (join_all p (grid_for p) n ws path)
+      length ws ≡ n → All (λ w. layer_at p w.contour ≤ highest_layer) ws → All Sane ws → Coming p (map contour_waiting ws) → P (map contour_waiting ws) path → P [] (join_all p (grid_for p) n ws path)
 
   -- w is chosen: one contour less waits afterwards
   join_one : (n : ℕ) → ((ws : List Waiting) (path : List Step) → Keeps n ws path) → (ws : List Waiting) (path : List Step) (w : Waiting) →
       choose p ws ≡ some w → Keeps (suc n) ws path
   unfolding join_all choose waiting_number waiting_layer
   join_one n join ws path w chosen l part sane coming h =
-      let cs = map contour_of ws in
-      let All-among = map-all (λ c. Among c cs) contour_of ws (among_all _ cs (λ c m. m)) in
+      let cs = map contour_waiting ws in
+      let All-among = map-all (λ c. Among c cs) contour_waiting ws (among_all _ cs (λ c m. m)) in
       let among = foremost_has (waiting_layer p) closer (λ v. Among v.contour cs) ws All-among w chosen in
-      let low = all_map (λ d. layer_at p w.contour ≤ layer_at p d) contour_of ws (foremost_low (waiting_layer p) closer ws w chosen) in
+      let low = all_map (λ d. layer_at p w.contour ≤ layer_at p d) contour_waiting ws (foremost_low (waiting_layer p) closer ws w chosen) in
       let next = entered p (grid_for p) path w.contour w.kept.entry in
       let cells = cells_around (vertex_at p w.contour) (grid_for p) w.contour.last in
       let f = update p (grid_for p) (path_points p next) cells in
       let caching = update_caching p (grid_for p) (path_points p next) cells in
       let rest = without waiting_number (waiting_number w) ws in
-      let q : map contour_of (map f rest) ≡ others w.contour cs = contours_cached f caching rest ∙ contours_without (waiting_number w) ws in
+      let q : map contour_waiting (map f rest) ≡ others w.contour cs = contours_cached f caching rest ∙ contours_without (waiting_number w) ws in
       let m : length (map f rest) ≡ n =
-      omega (arith, length-map (map f rest) contour_of, ap length q, length_others w.contour cs coming.rising among, length-map ws contour_of) in
+      omega (arith, length-map (map f rest) contour_waiting, ap length q, length_others w.contour cs coming.rising among, length-map ws contour_waiting) in
       rw (chosen, join_all)
       (join (map f rest) next m (part_cached f caching p rest (all_without _ waiting_number (waiting_number w) ws part)) (sane_cached f caching rest (all_without Sane waiting_number (waiting_number w) ws sane))
       (rw q (coming_without p w.contour.number cs coming))
@@ -78,7 +78,7 @@ module _ (p : Plate) (P : List Contour → List Step → Type 0) (begins : Begin
       let f = seed p (grid_for p) (path_points p (begin s)) in
       let caching = seed_caching p (grid_for p) (path_points p (begin s)) in
       let sane = all_map Sane (waiting p (grid_for p)) (contours p) (all_of _ (waiting_sane p (grid_for p)) (contours p)) in
-      let q : map contour_of (map f ws) ≡ others s.contour (contours p) =
+      let q : map contour_waiting (map f ws) ≡ others s.contour (contours p) =
       contours_cached f caching ws ∙ contours_without n all ∙ ap (without contour_number n) (contours_waiting p (grid_for p) (contours p)) in
       join_keeps (length ws) (map f ws) (begin s) (length-map ws f)
       (part_cached f caching p ws (all_without _ waiting_number n all (all_map (λ w. layer_at p w.contour ≤ highest_layer) (waiting p (grid_for p)) (contours p) t)))

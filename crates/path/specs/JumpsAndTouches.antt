@@ -14,7 +14,7 @@ use Rattle.rules.specs.Contours.{contour_count, IsContour, Of, NotOf}
 use Rattle.rules.specs.declared.Point.{Point}
 use Rattle.plate_laws.specs.Lists.{All, all_give, all_both, all_append, all_map, all-places, all-at, all_down_to, all_without}
 use Rattle.plate_laws.specs.FloatOrder.{Plus}
-use Rattle.plate_laws.specs.Accepted.{OfPlate, Measurable}
+use Rattle.plate_laws.specs.AcceptedInput.{OfPlate, Measurable}
 use Rattle.plate_laws.specs.Nearest.{point_of, grid_for, found_for, found_in, found_nearest}
 use Rattle.plate_laws.specs.Contours.{all_among, Apart, apart_not_of, others, others_apart, contours_rise, contour_in}
 use Rattle.plate_laws.specs.Start.{AllTakePart}
@@ -77,11 +77,8 @@ module _ (p : Plate) (m : Measurable p) (path : List Step) (c : Contour) (n : �
   abbrev landed : List Step
   landed = back ++ land kind r ∷ []
 
-  some : 1 ≤ length path
-  some = divided_some p path d
-
   h_in : h < length path
-  h_in = found_in p path some q
+  h_in = found_in p path (divided_some p path d) q
 
   copies : All (Copy path) back
   copies = walk_copies path h h_in
@@ -142,7 +139,7 @@ module _ (p : Plate) (m : Measurable p) (path : List Step) (c : Contour) (n : �
       let j = copied k (omega arith) in
       let a = old_point k (omega arith) ∙ j.2 in
       let b = old_point (length back - 1) (omega arith) ∙ left_point in
-      rw (a, b, lands_on) (found_nearest p path some q measured j.0 j.1 (rw (a, lands_on) at t))
+      rw (a, b, lands_on) (found_nearest p path (divided_some p path d) q measured j.0 j.1 (rw (a, lands_on) at t))
 
   pub entered_divided : Divided p (entered p (grid_for p) path c n)
   unfolding entered vertex_at land
@@ -151,7 +148,7 @@ module _ (p : Plate) (m : Measurable p) (path : List Step) (c : Contour) (n : �
       (emit_chain p c i back kind n e (inr (inr (tells, lands)), none_nearer))
 
   -- what holds of the path's vertices and of the contour's holds afterwards
-  pub entered_has : (P : ℕ → Type 0) → All (λ s. P s.vertex) path → ((v : ℕ) → Of c v → P v) →
+  entered_has : (P : ℕ → Type 0) → All (λ s. P s.vertex) path → ((v : ℕ) → Of c v → P v) →
       All (λ s. P s.vertex) (entered p (grid_for p) path c n)
   unfolding entered vertex_at
   entered_has P a f =

@@ -3,18 +3,16 @@
 use Rattle.std.specs.Prelude.{◌≡◌, refl}
 use Rattle.std.proofs.Common.{sym, ap, ◌∙◌, subst, arith}
 use mathlib.Core.List.{List, [], ◌∷◌, ◌++◌, append_assoc}
-use Prim.Native.Nat.{ℕ, zero, suc, ◌+◌, ◌-◌, ◌*◌, ◌≤◌, ◌<◌}
+use Prim.Native.Nat.{ℕ, zero, suc, ◌-◌, ◌≤◌, ◌<◌}
 use Rattle.std.proofs.Math.ListN.{length}
 use Rattle.rules.specs.Tools.{down_to}
-use Rattle.rules.specs.HandedOver.{Plate, Contour, at, contours, vertex_at, layer_at, retrace_room}
+use Rattle.rules.specs.HandedOver.{Plate, Contour, at, contours, vertex_at, layer_at}
 use Rattle.rules.specs.GridAndNearest.{nearest}
 use Rattle.rules.specs.Retrace.{step_at, vertex_of, walk_to, walk_back, emit, begin, path_points, place_in, entered, retrace}
-use Rattle.rules.specs.Marks.{cut_kind, back_step_kind, Step, land, cut_up, cut_down, back_step, landing_kind, marks, kind_at, reference_at}
+use Rattle.rules.specs.Marks.{back_step_kind, Step, land, cut_up, cut_down, back_step, landing_kind, marks}
 use Rattle.rules.specs.OrderAndStraight.{contour_number}
-use Rattle.rules.specs.Calls.{totals, path_totals, retrace_call}
 use Rattle.statement.specs.PathStatement.{Draws, NeverFall, LayerStatement}
 use Rattle.rules.specs.Contours.{contour_count, IsContour, Of}
-use Rattle.rules.specs.declared.Totals.{Totals}
 use Rattle.plate_laws.specs.Lists.{All, all_of, all_give, all_both, all_append, all_map, all-at, all_without}
 use Rattle.plate_laws.specs.Nearest.{grid_for}
 use Rattle.plate_laws.specs.Contours.{all_among, others, contour_one}
@@ -22,8 +20,8 @@ use Rattle.plate_laws.specs.Start.{AllTakePart}
 use Rattle.path.specs.Blank.{retrace_empty}
 use Rattle.path.specs.Induction.{Begins, Enters, retrace_keeps}
 use Rattle.path.specs.Emission.{Steps, emit_has, begin_has}
-use Rattle.plate_laws.specs.Slices.{marks_length, kind_at_lem, reference_at_lem}
-use Rattle.path.specs.Theorem.{retrace_gives, slice_after}
+use Rattle.plate_laws.specs.Slices.{kind_at_lem, reference_at_lem}
+use Rattle.path.specs.Theorem.{retrace_gives, retrace_leaves}
 
 module _ (p : Plate) where
   -- s is new on contour c
@@ -146,16 +144,11 @@ module _ (p : Plate) where
         of = rw (reference_at_lem path k l) at d.of;
       }
 
-  pub some_never_falls : AllTakePart p → 1 ≤ contour_count p → NeverFall p (length (retrace p)) (marks (retrace p))
+  some_never_falls : AllTakePart p → 1 ≤ contour_count p → NeverFall p (length (retrace p)) (marks (retrace p))
   unfolding NeverFall
   some_never_falls t h i j l m c d x y =
       let path = retrace p in
       rises_at path (retrace_keeps p Layers begins enters t h).rises i j l m d (news path j d m y) c (news path i c (omega arith) x)
-
--- a cut draws: the lower vertex number of its segment is a vertex of its contour
-pub cut_draws : (p : Plate) (ms : List ℕ) (k : ℕ) (c : Contour) → IsContour p c → kind_at ms k ≡ cut_kind → c.first ≤ reference_at ms k →
-    reference_at ms k < c.first + c.last → Draws p ms k c
-cut_draws p ms k c i e l h = record { contour = i; new = λ f. omega arith; of = (l, omega arith) }
 
 retrace_never_falls : (p : Plate) → AllTakePart p → NeverFall p (length (retrace p)) (marks (retrace p))
 unfolding contour_count NeverFall
@@ -166,11 +159,8 @@ retrace_never_falls p t = go (contours p) refl
     go (c ∷ cs) e = some_never_falls p t (omega (arith, ap length e))
 
 pub layer_statement : LayerStatement
-unfolding LayerStatement retrace_call totals path_totals
+unfolding LayerStatement
 layer_statement p path ms w d c e =
     let (accepted, part, counted) = retrace_gives p path ms w d c e in
-    let r = retrace p in
-    let n : c.points ≡ length r = ap (λ (x : Totals). x.points) counted in
-    let a = (retrace_call p path ms w d).answer in
-    let y = slice_after a c (retrace_room (length path) (length ms)) (2 * c.points) (marks r) ms e (omega (arith, marks_length r)) in
-    rw (y.1, n) (retrace_never_falls p part)
+    let l = retrace_leaves p path ms w d c e in
+    rw (l.marks_front, l.points) (retrace_never_falls p part)

@@ -20,10 +20,10 @@ use Rattle.rules.specs.declared.SpatialGrid.{SpatialGrid}
 use Rattle.plate_laws.specs.Lists.{All, all_give, all-at, all_map, all_without}
 use Rattle.plate_laws.specs.Layers.{foremost_all}
 use Rattle.plate_laws.specs.Rows.{Passed}
-use Rattle.plate_laws.specs.Accepted.{Layered}
+use Rattle.plate_laws.specs.AcceptedInput.{Layered}
 use Rattle.plate_laws.specs.Contours.{contours_numbered}
 use Rattle.plate_laws.specs.Start.{all_ends}
-use Rattle.plate_laws.specs.Ordering.{all_nearer}
+use Rattle.plate_laws.specs.OrderTotals.{all_nearer}
 
 -- ---- without layers
 
@@ -153,11 +153,11 @@ module _ (p : Plate) (l : ℕ) (low : l ≤ highest_layer) where
           (rest _ _ (all_map (λ v. InLayer v.contour) _ (without waiting_number (waiting_number w) ws) (all_without (λ v. InLayer v.contour) waiting_number (waiting_number w) ws a)))
 
   module _ (one : OneLayer p l) where
-    pub start_plain : start p ≡ plain_start p
+    start_plain : start p ≡ plain_start p
     unfolding start plain_start OneLayer layer_of
     start_plain = foremost_all (layer_of p) (beats p.strategy) l _ low (all_ends InLayer p _ (contours p) one)
 
-    pub order_plain : order p ≡ plain_order p
+    order_plain : order p ≡ plain_order p
     unfolding order plain_order order_of plain_order_of order_from plain_order_from OneLayer
     order_plain = ap (order_of p) start_plain ∙ go (plain_start p)
       where
@@ -167,7 +167,7 @@ module _ (p : Plate) (l : ℕ) (low : l ≤ highest_layer) where
             let rest = without contour_number s.contour.number (contours p) in
             ap (λ (ss : List Oriented). s ∷ ss) (order_after_plain (length rest) rest s (all_without InLayer contour_number s.contour.number (contours p) one))
 
-    pub retrace_plain : retrace p ≡ plain_retrace p
+    retrace_plain : retrace p ≡ plain_retrace p
     unfolding retrace plain_retrace retrace_of plain_retrace_of retrace_from plain_retrace_from OneLayer seed keep waiting
     retrace_plain = ap (retrace_of p) start_plain ∙ go (plain_start p)
       where

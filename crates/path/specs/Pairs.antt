@@ -65,7 +65,7 @@ pair_kept p path s more k e f =
     rw here (pair_same p v u (suc (length path)) same k (omega arith) s.kind s.reference (rw last at f))
 
 -- every later point of a chain is in a pair with the point before
-pub chain_pairs : (p : Plate) (path ss : List Step) → Chain p path ss → (k : ℕ) → length path ≤ suc k → suc k < length (path ++ ss) →
+chain_pairs : (p : Plate) (path ss : List Step) → Chain p path ss → (k : ℕ) → length path ≤ suc k → suc k < length (path ++ ss) →
     PlatePairAt p (path ++ ss) k
 chain_pairs p path [] c k h l = absurd (omega (arith, length-append path []))
 chain_pairs p path (s ∷ ss) c k h l = go (dec_le (suc k) (length path)) (chain_pairs p (path ++ s ∷ []) ss c.1 k)

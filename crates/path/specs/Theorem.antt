@@ -18,13 +18,14 @@
 --                       or a jump or a touch, to vertex m of a contour that no earlier path point is of; a jump's two points differ numerically, and a
 --                       touch's are numerically equal;
 --       cuts, jumps   there are S cuts, S being the number of segments, and n − 1 jumps and touches, n being the number of contours;
---       all           there are S + B + n path points, B being the number of back-steps: so no pair is anything else;
+--       points        there are S + B + n path points, B being the number of back-steps: so no pair is anything else;
 --       once          each segment of each contour is cut exactly once;
 --     nine_cells    no earlier path point in the nine cells around a landing is nearer, by squared distances as document 01 computes them, than the one left;
 --     kinds         c counts the marks of each kind.
 --
--- The pairs are proved in JumpsAndTouches (over Pairs, Runs and Emission; the nine cells in plate_laws/specs/Nearest.antt, over Squares and Rings), the numbers in Totals (over Shares),
--- both by the induction over the joining in Induction; the slices in MarkedVertices and in plate_laws/specs/Slices.antt; and what a result says of the plate in plate_laws/specs/Accepted.antt. Assumes nothing.
+-- The pairs are proved in JumpsAndTouches (over Pairs, Runs and Emission; the nine cells in plate_laws/specs/Nearest.antt, over Squares and Rings), the numbers
+-- in Totals (over Shares), both by the induction over the joining in Induction; the slices in MarkedVertices and in plate_laws/specs/Slices.antt; and what a
+-- result says of the plate in plate_laws/specs/AcceptedInput.antt. Assumes nothing.
 use Rattle.std.specs.Prelude.{◌≡◌, refl, List, [], ◌∷◌, ◌++◌, ℕ, suc, ◌*◌, ◌≤◌, ◌<◌, Float, length, take, drop}
 use Rattle.std.proofs.Common.{sym, ap, ◌∙◌, arith, ltb→lt, length-take-le, take_at}
 use Rattle.rules.specs.Tools.{pick, every}
@@ -36,7 +37,7 @@ use Rattle.statement.specs.PathStatement.{Divides, PathStatement}
 use Rattle.rules.specs.Contours.{contour_count, segment_count, OfContour}
 use Rattle.rules.specs.declared.Totals.{Totals}
 use Rattle.plate_laws.specs.Rows.{rows_other, rows_give, rows_append, lacks_other, row_tells}
-use Rattle.plate_laws.specs.Accepted.{Accepted, input_other, input_gives, input_lacks, Measurable, accepted_measurable}
+use Rattle.plate_laws.specs.AcceptedInput.{Accepted, input_other, input_gives, input_lacks, Measurable, accepted_measurable}
 use Rattle.plate_laws.specs.Start.{AllTakePart, layered_part}
 use Rattle.path.specs.Pairs.{PlatePair, pair_same, divided_some, divided_start, divided_pairs, divided_length}
 use Rattle.path.specs.JumpsAndTouches.{retrace_divided}
@@ -76,7 +77,7 @@ retrace_divides p m t h =
             pairs = λ k l. (pair k l).0;
             cuts = cuts;
             jumps = λ l. jumps;
-            all = omega (arith, divided_length p path d);
+            points = omega (arith, divided_length p path d);
             once = retrace_once p t h;
           };
       nine_cells = λ k l. (pair k l).1;
@@ -107,7 +108,7 @@ retrace_full p path ms w d k e =
     (accepted.0, layered_part p accepted.1, sym same, omega (arith, ltb→lt c n beyond, same))
 
 -- an output slice after a result of n numbers
-pub slice_after : {A B : Type 0} (a : Answer A) (c : A) (room n : ℕ) (result slice : List B) → a ≡ gives c → length result ≡ n →
+slice_after : {A B : Type 0} (a : Answer A) (c : A) (room n : ℕ) (result slice : List B) → a ≡ gives c → length result ≡ n →
     (after a room result slice ≡ result ++ drop n slice) × (take n (after a room result slice) ≡ result)
 unfolding after over
 slice_after a c room n result slice e l = rw e (rw l, take_at result (drop (length result) slice) n l)
@@ -118,15 +119,31 @@ pub slice_begun : {A B : Type 0} (a : Answer A) (k room : ℕ) (result slice : L
 unfolding after over pick
 slice_begun a k room result slice e s l = rw (e, ← s) (take_at (take (2 * k) result) _ (2 * k) (length-take-le (2 * k) result l))
 
-pub path_statement : PathStatement
-unfolding PathStatement retrace_call totals path_totals
-path_statement p path ms w d c e h =
-    let (accepted, part, counted) = retrace_gives p path ms w d c e in
+-- of slices before and after a call: n path points are the whole result, and stand in front of what was there
+pub record Leaves (p : Plate) (xs xs' : List Float) (ms ms' : List ℕ) (n : ℕ) : Type 0 where
+  pub points : n ≡ length (retrace p)
+  pub path : xs' ≡ coordinates p.points (vertices (retrace p)) ++ drop (2 * n) xs
+  pub path_front : take (2 * n) xs' ≡ coordinates p.points (vertices (retrace p))
+  pub path_marks : ms' ≡ marks (retrace p) ++ drop (2 * n) ms
+  pub marks_front : take (2 * n) ms' ≡ marks (retrace p)
+
+pub retrace_leaves : (p : Plate) (path : List Float) (ms : List ℕ) (w d : ℕ) (c : Totals) → (retrace_call p path ms w d).answer ≡ gives c →
+    Leaves p path (retrace_call p path ms w d).path ms (retrace_call p path ms w d).marks c.points
+unfolding retrace_call totals path_totals
+retrace_leaves p path ms w d c e =
+    let counted = (retrace_gives p path ms w d c e).2 in
     let r = retrace p in
     let a = (retrace_call p path ms w d).answer in
     let room = retrace_room (length path) (length ms) in
     let n : c.points ≡ length r = ap (λ (x : Totals). x.points) counted in
     let xs = coordinates p.points (vertices r) in
-    let x = slice_after a c room (2 * c.points) xs path e (omega (arith, coordinates_length p.points (vertices r), vertices_length r)) in
-    let y = slice_after a c room (2 * c.points) (marks r) ms e (omega (arith, marks_length r)) in
-    (counted, x.0, y.0, rw (x.1, y.1, counted) (retrace_divides p (accepted_measurable p accepted) part h))
+    let x = slice_after a c room (2 * c.points) xs path e (omega (arith, n, coordinates_length p.points (vertices r), vertices_length r)) in
+    let y = slice_after a c room (2 * c.points) (marks r) ms e (omega (arith, n, marks_length r)) in
+    record { points = n; path = x.0; path_front = x.1; path_marks = y.0; marks_front = y.1 }
+
+pub path_statement : PathStatement
+unfolding PathStatement
+path_statement p path ms w d c e h =
+    let (accepted, part, counted) = retrace_gives p path ms w d c e in
+    let l = retrace_leaves p path ms w d c e in
+    (counted, l.path, l.path_marks, rw (l.path_front, l.marks_front, counted) (retrace_divides p (accepted_measurable p accepted) part h))

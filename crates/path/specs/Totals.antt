@@ -1,5 +1,5 @@
 -- The path of a plate whose contours all take part has S cuts, and n − 1 jumps and touches together, and cuts each segment of each contour once. Assumes nothing.
-use Rattle.std.specs.Prelude.{◌≡◌, refl, Bool, true, false, ◌&&◌, ◌||◌, List, [], ◌∷◌, map, ℕ, ◌+◌, ◌≤◌, ◌<◌, eqb}
+use Rattle.std.specs.Prelude.{◌≡◌, refl, Bool, true, false, ◌||◌, List, [], ◌∷◌, map, ℕ, ◌+◌, ◌≤◌, ◌<◌, eqb}
 use Rattle.std.proofs.Common.{sym, ap, ◌∙◌, inl, inr, zero-add, arith, eqb-true, ne_eqb}
 use Rattle.std.proofs.Math.Path.{fun_ext}
 use Rattle.rules.specs.Tools.{pick, sum, up_from}
@@ -11,6 +11,7 @@ use Rattle.plate_laws.specs.Lists.{all_of, all_give, length_up_from}
 use Rattle.plate_laws.specs.Sums.{sum_ones, sum_zeros, indicator, sum_absent, sum_once}
 use Rattle.plate_laws.specs.Contours.{Apart, others, others_apart, sum_others, contours_rise}
 use Rattle.plate_laws.specs.Start.{AllTakePart}
+use Rattle.division_laws.specs.MarkCounts.{cutting}
 use Rattle.path.specs.Shares.{Weights, share, retrace_total}
 
 -- 1 for a step whose mark passes a test of kind and reference
@@ -86,6 +87,6 @@ pub retrace_once : (p : Plate) → AllTakePart p → 1 ≤ contour_count p → (
 unfolding cuts_of share pick land cut_up cut_down back_step
 retrace_once p t h c m i l =
     let v = c.first + i in
-    let n = counted (λ kind r. eqb kind cut_kind && eqb r v) (indicator v) 0
+    let n = counted (cutting v) (indicator v) 0
     (record { up = λ u. refl; down = λ u. refl; back = λ u k. refl; start = λ u. refl; landing = λ u. refl; touch = λ u. refl }) (segment_of v) (λ d. zero-add _) p t h in
     omega (arith, n, one_segment p c m i l)

@@ -1,13 +1,12 @@
 -- The work slice before the first path point, where every contour takes part. Assumes nothing.
-use Rattle.std.specs.Prelude.{◌≡◌, refl, ◌⊎◌, List, [], ◌∷◌, ℕ, zero, suc, ◌+◌, ◌-◌, ◌*◌, ◌≤◌, ◌<◌, length, get_or, set, take}
+use Rattle.std.specs.Prelude.{◌≡◌, ◌⊎◌, List, [], ◌∷◌, ℕ, zero, suc, ◌+◌, ◌-◌, ◌*◌, ◌≤◌, ◌<◌, length, get_or, set, take}
 use Rattle.std.proofs.Common.{◌∙◌, subst, inl, inr, arith, get_or-set_same, get_or-set_other}
 use Rattle.std.proofs.Math.Decide.{ℕ_discrete}
 use Rattle.rules.specs.Tools.{sum}
-use Rattle.rules.specs.HandedOver.{Contour, contours_from, contours_of}
+use Rattle.rules.specs.HandedOver.{Contour, contours_of}
 use Rattle.rules.specs.Marks.{count_marks, cuts_of, entries_of}
 use Rattle.rules.specs.Contours.{Among, Of}
-use Rattle.plate_laws.specs.Lists.{All, all_give}
-use Rattle.plate_laws.specs.Contours.{all_among, from_on, rising_from, numbers_from, of_one}
+use Rattle.plate_laws.specs.Contours.{all_among, PlacedFrom, places_from, rising_from, of_one}
 use Rattle.path_rules.specs.PathWords.{Labelled, Tallied}
 
 -- a word written to the places from a up to b
@@ -81,42 +80,19 @@ module _ (ns : List ℕ) (total : ℕ) (e : total ≡ sum ns) where
           get_or-set_other after (total + j) (total + k) 1 0 (λ z. y (omega (arith, z)))
           ∙ f.old (total + k) (inr (omega (arith, n.1))) ∙ l.entries k (omega (arith, y, a))
 
--- ---- the contours of the lengths
-
--- contour c stands at its place in the lengths from contour j and vertex v on
-abbrev PlacedFrom : ℕ → ℕ → List ℕ → Contour → Type 0
-PlacedFrom j v ns c =
-    (j ≤ c.number) × (c.first ≡ v + sum (take (c.number - j) ns)) × (c.first + suc c.last ≡ v + sum (take (suc (c.number - j)) ns))
-
-placed_shift : (j v w n : ℕ) (ns : List ℕ) (c : Contour) → w ≡ v + n → PlacedFrom (suc j) w ns c → PlacedFrom j v (n ∷ ns) c
-unfolding sum
-placed_shift j v w n ns c f h =
-    let e : c.number - j ≡ suc (c.number - suc j) = omega (arith, h.0) in
-    (omega (arith, h.0), rw e (omega (arith, h.1, f)), rw e (omega (arith, h.2, f)))
-
-places_from : (j v : ℕ) (ns : List ℕ) → All (PlacedFrom j v ns) (contours_from j v ns)
-unfolding contours_from sum
-places_from j v [] = tt
-places_from j v (zero ∷ ns) =
-    all_give (PlacedFrom (suc j) v ns) (PlacedFrom j v (0 ∷ ns)) (λ c h. placed_shift j v v 0 ns c (omega arith) h) (contours_from (suc j) v ns)
-    (places_from (suc j) v ns)
-places_from j v (suc n ∷ ns) =
-    let e : j - j ≡ 0 = omega arith in (
-      (omega arith, rw e (omega arith), rw e (omega arith)),
-      all_give (PlacedFrom (suc j) (v + suc n) ns) (PlacedFrom j v (suc n ∷ ns)) (λ c h. placed_shift j v (v + suc n) (suc n) ns c refl h)
-          (contours_from (suc j) (v + suc n) ns) (places_from (suc j) (v + suc n) ns),
-    )
-
 -- every contour's words are written
 module _ (ns : List ℕ) (total j : ℕ) (work : List ℕ) (e : total ≡ sum ns) (h : length ns ≤ j) (l : LabelledTo ns total j work) where
+  place_of : (c : Contour) → Among c (contours_of ns) → PlacedFrom 0 0 ns c
+  place_of = all_among (PlacedFrom 0 0 ns) (contours_of ns) (places_from 0 0 ns)
+
   number_in : (c : Contour) → Among c (contours_of ns) → c.number < length ns
-  number_in c m = omega (arith, all_among _ (contours_of ns) (numbers_from 0 0 ns) c m)
+  number_in c m = omega (arith, (place_of c m).most)
 
   vertex_word : (c : Contour) → Among c (contours_of ns) → (v : ℕ) → Of c v → get_or work v 0 ≡ 2 * c.number
   vertex_word c m v o =
-      let q = all_among (PlacedFrom 0 0 ns) (contours_of ns) (places_from 0 0 ns) c m in
+      let q = place_of c m in
       let z : c.number - 0 ≡ c.number = omega arith in
-      l.vertices c.number v (omega (arith, number_in c m, h)) (omega (arith, rw z at q.1, o)) (omega (arith, rw z at q.2, o))
+      l.vertices c.number v (omega (arith, number_in c m, h)) (omega (arith, rw z at q.begins, o)) (omega (arith, rw z at q.ends, o))
 
   pub all_labelled : total + length ns ≤ length work → Labelled total work
   all_labelled room =
@@ -132,7 +108,7 @@ module _ (ns : List ℕ) (total j : ℕ) (work : List ℕ) (e : total ≡ sum ns
   all_tallied ms =
       record {
         rising = rising_from 0 0 ns;
-        within = λ c m. omega (arith, all_among _ (contours_of ns) (from_on 0 0 ns) c m, e);
+        within = λ c m. omega (arith, (place_of c m).inside, e);
         cuts = λ c m v o. omega (arith, vertex_word c m v o);
         once = λ v. omega arith;
         entries = λ c m. l.entries c.number (omega (arith, number_in c m, h));

@@ -1,18 +1,18 @@
 -- What the work slice says after the last path point. Assumes nothing.
-use Rattle.std.specs.Prelude.{◌≡◌, refl, ◌⊎◌, Bool, true, false, ◌&&◌, List, [], ℕ, zero, suc, ◌+◌, ◌*◌, ◌/◌, ◌%◌, ◌≤◌, ◌<◌, length, get_or, T, IsTrue, ◌↔◌}
+use Rattle.std.specs.Prelude.{◌≡◌, refl, ◌⊎◌, Bool, true, false, List, [], ℕ, zero, suc, ◌+◌, ◌*◌, ◌/◌, ◌%◌, ◌≤◌, ◌<◌, length, get_or, T, IsTrue, ◌↔◌}
 use Rattle.std.proofs.Common.{sym, subst, inl, inr, arith, eqb→eq}
 use Rattle.std.proofs.Math.Decide.{ℕ_discrete}
 use Rattle.std.proofs.Math.Dec.{not_T, eqb}
 use Rattle.std.specs.Float.Ieee.Bits.{is_true, is_false}
 use Rattle.rules.specs.Tools.{up_from}
 use Rattle.rules.specs.HandedOver.{Contour}
-use Rattle.rules.specs.Marks.{cut_kind, cuts_of, enters, entries_of}
-use Rattle.rules.specs.Contours.{Among, Of, is_of}
+use Rattle.rules.specs.Marks.{cuts_of, entries_of}
+use Rattle.rules.specs.Contours.{Among, Of}
 use Rattle.statement.specs.PathCheck.{complete}
 use Rattle.plate_laws.specs.Lists.{All, all_up_from}
 use Rattle.plate_laws.specs.Contours.{all_among, among_all, one_number}
 use Rattle.division_laws.specs.Says.{Says, SomeOf, says_eqb}
-use Rattle.division_laws.specs.MarkCounts.{count_all}
+use Rattle.division_laws.specs.MarkCounts.{count_all, cutting, entering}
 use Rattle.division_laws.specs.Rules.{says_complete}
 use Rattle.path_rules.specs.PathWords.{Tallied}
 use Rattle.path_rules.specs.Parts.{TalliedBy}
@@ -75,15 +75,15 @@ module _ (cs : List Contour) (total : ℕ) (ms : List ℕ) (n : ℕ) (work : Lis
 
   cuts_now : (c : Contour) → Among c cs → (u : ℕ) → Of c u → word u ≡ 2 * c.number + cuts_of u ms
   unfolding cuts_of
-  cuts_now c m u o = omega (arith, t.cuts c m u o, count_all (λ kind r. eqb kind cut_kind && eqb r u) ms n l)
+  cuts_now c m u o = omega (arith, t.cuts c m u o, count_all (cutting u) ms n l)
 
   once_now : (u : ℕ) → cuts_of u ms ≤ 1
   unfolding cuts_of
-  once_now u = omega (arith, t.once u, count_all (λ kind r. eqb kind cut_kind && eqb r u) ms n l)
+  once_now u = omega (arith, t.once u, count_all (cutting u) ms n l)
 
   entry_now : (c : Contour) → Among c cs → Of c v → entry ≡ 1 + entries_of c ms
   unfolding entries_of
-  entry_now c m o = omega (arith, word_of cs total ms n work t c m v o, count_all (λ kind r. enters kind && is_of c r) ms n l)
+  entry_now c m o = omega (arith, word_of cs total ms n work t c m v o, count_all (entering c) ms n l)
 
   -- a contour that is entered
   module _ (entered : 2 ≤ entry) where

@@ -6,6 +6,7 @@ use native.Mathlib.Omega.{arith}
 use lib.Ieee.{Float}
 use lib.ListN.{length, set, length-set}
 use Rattle.std.proofs.lemmas.List.{take-set-le}
+use Rattle.rules.specs.Limits.{most_cells}
 use Rattle.rules.specs.HandedOver.{at}
 use Rattle.rules.specs.declared.Point.{Point}
 use Rattle.rules.specs.declared.SpatialGrid.{SpatialGrid}
@@ -65,5 +66,5 @@ module _ {g : SpatialGrid} {room count : ℕ} {path : List Float} {ms work : Lis
     put_grows xs v e steps was marked w =
         rw e at (wrote_put xs steps room count was path marked ms w (record { vertex = v; kind = kind; reference = reference }) l)
 
-    pub put_kept : KeptFrom (2916 + room) work (inserted g work count p)
+    pub put_kept : KeptFrom (most_cells + room) work (inserted g work count p)
     put_kept i k = inserted_kept g work count p h.sane i (omega arith)

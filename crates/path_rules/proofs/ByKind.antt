@@ -11,6 +11,7 @@ use Rattle.rules.specs.HandedOver.{Contour, at}
 use Rattle.rules.specs.Marks.{start_kind, cut_kind, back_step_kind, jump_kind, touch_kind, coincide, landing_kind, kind_at, reference_at}
 use Rattle.statement.specs.PathCheck.{lands_fresh, cuts_fresh, reverses, keeps_after, keeps_rules}
 use Rattle.rules.specs.declared.Point.{Point}
+use Rattle.plate_laws.specs.Slices.{suc_minus_one}
 
 -- a landing is neither a cut nor a back-step
 landing_above : (a b : Point) → (2 < landing_kind a b) × (landing_kind a b ≤ 4)
@@ -55,10 +56,6 @@ module _ (cs : List Contour) (xs path : List Float) (ms : List ℕ) where
       unfolding keeps_after
       by_none e = rw (ne_eqb kind cut_kind c, ne_eqb kind back_step_kind b, ne_eqb kind landing e) refl
 
-  -- path point i, which is not the first, after path point i − 1
-  before : (k : ℕ) → suc k - 1 ≡ k
-  before k = omega arith
-
   -- by the kind, and by the reference r
   pub keeps_start : (i r : ℕ) → i ≡ 0 → kind_at ms i ≡ start_kind → r ≡ reference_at ms i → lands_fresh cs xs path ms i r ≡ keeps_rules cs xs path ms i
   unfolding keeps_rules
@@ -73,24 +70,24 @@ module _ (cs : List Contour) (xs path : List Float) (ms : List ℕ) where
   pub keeps_cut : (i r : ℕ) → (i ≡ 0 → ⊥) → kind_at ms i ≡ cut_kind → r ≡ reference_at ms i → cuts_fresh cs xs path ms (i - 1) r ≡ keeps_rules cs xs path ms i
   unfolding keeps_rules
   keeps_cut zero r n k e = absurd (n refl)
-  keeps_cut (suc i) r n k e = rw (before i, e) (sym (by_cut i (kind_at ms (suc i)) (reference_at ms (suc i)) k))
+  keeps_cut (suc i) r n k e = rw (suc_minus_one i, e) (sym (by_cut i (kind_at ms (suc i)) (reference_at ms (suc i)) k))
 
   pub keeps_back : (i r : ℕ) → (i ≡ 0 → ⊥) → kind_at ms i ≡ back_step_kind → r ≡ reference_at ms i → reverses path (i - 1) r ≡ keeps_rules cs xs path ms i
   unfolding keeps_rules
   keeps_back zero r n k e = absurd (n refl)
-  keeps_back (suc i) r n k e = rw (before i, e) (sym (by_back i (kind_at ms (suc i)) (reference_at ms (suc i)) k))
+  keeps_back (suc i) r n k e = rw (suc_minus_one i, e) (sym (by_back i (kind_at ms (suc i)) (reference_at ms (suc i)) k))
 
   pub keeps_landing : (i r : ℕ) → (i ≡ 0 → ⊥) → (kind_at ms i ≡ cut_kind → ⊥) → (kind_at ms i ≡ back_step_kind → ⊥) →
       kind_at ms i ≡ landing_kind (at path (i - 1)) (at path i) → r ≡ reference_at ms i → lands_fresh cs xs path ms i r ≡ keeps_rules cs xs path ms i
   unfolding keeps_rules
   keeps_landing zero r n c b k e = absurd (n refl)
-  keeps_landing (suc i) r n c b k e = rw e (sym (by_landing i (kind_at ms (suc i)) (reference_at ms (suc i)) c b (rw (before i) at k)))
+  keeps_landing (suc i) r n c b k e = rw e (sym (by_landing i (kind_at ms (suc i)) (reference_at ms (suc i)) c b (rw (suc_minus_one i) at k)))
 
   pub no_landing : (i : ℕ) → (i ≡ 0 → ⊥) → (kind_at ms i ≡ cut_kind → ⊥) → (kind_at ms i ≡ back_step_kind → ⊥) →
       (kind_at ms i ≡ landing_kind (at path (i - 1)) (at path i) → ⊥) → false ≡ keeps_rules cs xs path ms i
   unfolding keeps_rules
   no_landing zero n c b l = absurd (n refl)
-  no_landing (suc i) n c b l = sym (by_none i (kind_at ms (suc i)) (reference_at ms (suc i)) c b (λ x. l (rw (before i) x)))
+  no_landing (suc i) n c b l = sym (by_none i (kind_at ms (suc i)) (reference_at ms (suc i)) c b (λ x. l (rw (suc_minus_one i) x)))
 
   -- a start that is not the first
   pub late_start : (i : ℕ) → (i ≡ 0 → ⊥) → kind_at ms i ≡ start_kind → false ≡ keeps_rules cs xs path ms i

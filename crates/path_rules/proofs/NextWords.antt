@@ -20,18 +20,12 @@ use Rattle.rules.specs.Contours.{Among, Of, is_of}
 use Rattle.statement.specs.PathCheck.{keeps_rules}
 use Rattle.plate_laws.specs.Contours.{one_number}
 use Rattle.division_laws.specs.Says.{says_eqb}
-use Rattle.division_laws.specs.MarkCounts.{passing, count_step}
+use Rattle.division_laws.specs.MarkCounts.{passing, count_step, cutting, entering}
 use Rattle.division_laws.specs.Rules.{KeepsAfter, says_of, says_keeps, says_start}
 use Rattle.path_rules.specs.PathWords.{Labelled, Tallied}
 use Rattle.path_rules.specs.Words.{number_at, contour_word, number_of, word_of}
 
 -- ---- what one mark more counts
-
-abbrev cutting : ℕ → ℕ → ℕ → Bool
-cutting v kind r = eqb kind cut_kind && eqb r v
-
-abbrev entering : Contour → ℕ → ℕ → Bool
-entering c kind r = enters kind && is_of c r
 
 counts_none : (a b : Bool) → (T b → ⊥) → ◌≡◌ {A = ℕ} (pick (a && b) 1 0) 0
 unfolding pick

@@ -4,9 +4,9 @@ use Rattle.std.proofs.Common.{sym, arith}
 use Rattle.std.proofs.lemmas.Bool.{false_from_ne_true}
 use Rattle.rules.specs.Marks.{back_step_kind, kind_at, vertices_after}
 use Rattle.contour_recovery.specs.ContourRecovery.{landed, consistent}
-use Rattle.recovery_laws.specs.Failing.{PassBefore, first_found, pass_more}
+use Rattle.recovery_laws.specs.FirstFailing.{PassBefore, first_found, pass_more}
 use Rattle.recovery_laws.specs.ByKind.{rule_known}
-use Rattle.recovery_laws.specs.Landed.{landed_none, landed_back, landed_here}
+use Rattle.recovery_laws.specs.LandedVertices.{landed_none, landed_back, landed_here}
 use Rattle.rules.specs.Tools.{first_failing}
 use Rattle.landings.specs.declared.words.Landings.{Landings}
 use Rattle.landings.specs.LandedBefore.{count_of, LandedBefore, landed_same}

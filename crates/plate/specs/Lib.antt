@@ -1,5 +1,4 @@
 pub mod Answer
-pub mod SumsAndSearches
 pub mod PassedCounts
 pub mod Props
 pub mod Sound

@@ -6,7 +6,7 @@ use Rattle.std.proofs.Math.Dec.{T_prop}
 use Rattle.rules.specs.HandedOver.{in_range, plate_limit}
 use Rattle.plate_laws.specs.Lists.{All}
 use Rattle.plate_laws.specs.FiniteDistances.{OnPlate}
-use Rattle.plate_laws.specs.Accepted.{Accepted}
+use Rattle.plate_laws.specs.AcceptedInput.{Accepted}
 
 pub on_plate_prop : (xs : List Float) → IsProp (All OnPlate xs)
 on_plate_prop [] = Unit-prop

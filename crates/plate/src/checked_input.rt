@@ -3,7 +3,7 @@ ghost use Rattle.std.specs.Prelude.{◌≡◌, ◌+◌, ◌*◌, ◌<◌, length
 ghost use Rattle.rules.specs.HandedOver.{at};
 ghost use Rattle.plate_laws.specs.Lists.{All};
 ghost use Rattle.plate_laws.specs.FiniteDistances.{OnPlate};
-ghost use Rattle.plate_laws.specs.Accepted.{Accepted};
+ghost use Rattle.plate_laws.specs.AcceptedInput.{Accepted};
 ghost use Rattle.plate.specs.Props.{on_plate_prop, accepted_prop};
 
 use rules::{Input, Point, Vertex, point_at};

@@ -39,8 +39,8 @@ fn write_blocks(path: &[f64], file: &mut [u8])
 
 // The writer: the file of a path, which is a caller's slice of coordinates. It gives how many bytes the file has.
 pub fn write_file(path: &[f64], file: &mut [u8]) -> Result<u32, Refusal>
-    ensures { let o = write_call path.now file.old in
-        (answer_of result ≡ o.answer) × (file.new ≡ o.file) }
+    ensures answer { answer_of result ≡ (write_call path.now file.old).answer }
+    ensures file { file.new ≡ (write_call path.now file.old).file }
 {
     let points = path.len() / 2;
     if MOST_PATH_POINTS < points {
@@ -100,8 +100,8 @@ fn copy_blocks(file: &[u8], path: &mut [f64])
 
 // The reader: nothing is written before every test has passed. It gives how many points were read.
 pub fn read_file(file: &[u8], path: &mut [f64]) -> Result<u32, Refusal>
-    ensures { let o = read_call file.now path.old in
-        (answer_of result ≡ o.answer) × (path.new ≡ o.path) }
+    ensures answer { answer_of result ≡ (read_call file.now path.old).answer }
+    ensures path { path.new ≡ (read_call file.now path.old).path }
 {
     let points = scan_blocks(file)?;
     let numbers = 2 * points as usize;

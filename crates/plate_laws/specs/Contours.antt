@@ -1,5 +1,5 @@
 -- The contours of a plate: their numbers and their vertices rise, their vertices are the plate's, and one of them is taken out. Assumes nothing.
-use Rattle.std.specs.Prelude.{◌≡◌, refl, Bool, true, false, List, [], ◌∷◌, ◌++◌, map, ◌⊎◌, ℕ, zero, suc, ◌+◌, ◌≤◌, ◌<◌, eqb, length, get_or, take, drop}
+use Rattle.std.specs.Prelude.{◌≡◌, refl, Bool, true, false, List, [], ◌∷◌, ◌++◌, map, ◌⊎◌, ℕ, zero, suc, ◌+◌, ◌-◌, ◌≤◌, ◌<◌, eqb, length, get_or, take, drop}
 use Rattle.std.proofs.Common.{sym, ap, ◌∙◌, subst, inl, inr, zero-add, arith, eq-eqb, ne_eqb}
 use Rattle.std.proofs.Math.Decide.{dec_le}
 use Rattle.rules.specs.Tools.{pick, sum, without}
@@ -122,23 +122,60 @@ one_number (x ∷ xs) r c d (inr m) (inr n) e = one_number xs r.1 c d m n e
 
 -- ---- the contours of a plate
 
--- those from contour j and vertex v on
-pub from_on : (j v : ℕ) (ns : List ℕ) → All (λ c. (j ≤ c.number) × (v ≤ c.first) × (c.first + c.last < v + sum ns)) (contours_from j v ns)
+-- c is one of the contours from contour j and vertex v on, whose lengths are ns: its place among them, and where its vertices begin and end
+pub record PlacedFrom (j v : ℕ) (ns : List ℕ) (c : Contour) : Type 0 where
+  pub least : j ≤ c.number
+  pub most : c.number < j + length ns
+  pub long : get_or ns (c.number - j) 0 ≡ c.last + 1
+  pub begins : c.first ≡ v + sum (take (c.number - j) ns)
+  pub ends : c.first + suc c.last ≡ v + sum (take (suc (c.number - j)) ns)
+  pub inside : c.first + c.last < v + sum ns
+
+-- n points stand before w
+placed_cons : (j v w n : ℕ) (ns : List ℕ) (c : Contour) → w ≡ v + n → PlacedFrom (suc j) w ns c → PlacedFrom j v (n ∷ ns) c
+unfolding sum
+placed_cons j v w n ns c f h =
+    let l = h.least in
+    let e : c.number - j ≡ suc (c.number - suc j) = omega arith in
+    record {
+      least = omega arith;
+      most = omega (arith, h.most);
+      long = rw e h.long;
+      begins = rw e (omega (arith, h.begins, f));
+      ends = rw e (omega (arith, h.ends, f));
+      inside = omega (arith, h.inside, f);
+    }
+
+pub places_from : (j v : ℕ) (ns : List ℕ) → All (PlacedFrom j v ns) (contours_from j v ns)
 unfolding contours_from sum
-from_on j v [] = tt
-from_on j v (zero ∷ ns) = all_give _ _ (λ c h. (omega arith, omega arith, omega arith)) (contours_from (suc j) v ns) (from_on (suc j) v ns)
-from_on j v (suc n ∷ ns) = (
-  (omega arith, omega arith, omega arith),
-  all_give _ _ (λ c h. (omega arith, omega arith, omega arith)) (contours_from (suc j) (v + suc n) ns) (from_on (suc j) (v + suc n) ns),
+places_from j v [] = tt
+places_from j v (zero ∷ ns) = all_give _ _ (λ c h. placed_cons j v v 0 ns c (omega arith) h) (contours_from (suc j) v ns) (places_from (suc j) v ns)
+places_from j v (suc n ∷ ns) = (
+  here,
+  all_give _ _ (λ c h. placed_cons j v (v + suc n) (suc n) ns c refl h) (contours_from (suc j) (v + suc n) ns) (places_from (suc j) (v + suc n) ns),
 )
+  where
+    z : j - j ≡ 0
+    z = omega arith
+
+    here : PlacedFrom j v (suc n ∷ ns) (record { number = j; first = v; last = n })
+    here =
+        record {
+          least = omega arith;
+          most = omega arith;
+          long = rw z (omega arith);
+          begins = rw z (omega arith);
+          ends = rw z (omega arith);
+          inside = omega arith;
+        }
 
 pub rising_from : (j v : ℕ) (ns : List ℕ) → Rising (contours_from j v ns)
 unfolding contours_from
 rising_from j v [] = tt
 rising_from j v (zero ∷ ns) = rising_from (suc j) v ns
 rising_from j v (suc n ∷ ns) = (
-  all_give _ _ (λ c h. record { numbers = omega arith; vertices = omega arith }) (contours_from (suc j) (v + suc n) ns)
-      (from_on (suc j) (v + suc n) ns),
+  all_give _ _ (λ c h. record { numbers = omega (arith, h.least); vertices = omega (arith, h.begins) }) (contours_from (suc j) (v + suc n) ns)
+      (places_from (suc j) (v + suc n) ns),
   rising_from (suc j) (v + suc n) ns,
 )
 
@@ -155,7 +192,7 @@ contour_one p c d v m n a b = one_of (contours p) (contours_rise p) c d v m n a 
 -- a contour's vertices are vertices of the plate
 pub contour_in : (p : Plate) (c : Contour) → IsContour p c → c.first + c.last < sum p.lengths
 unfolding contours
-contour_in p c m = let h = all_among _ (contours p) (from_on 0 0 p.lengths) c m in omega (arith, h)
+contour_in p c m = omega (arith, (all_among (PlacedFrom 0 0 p.lengths) (contours p) (places_from 0 0 p.lengths) c m).inside)
 
 -- each vertex is one of a contour's
 cover_from : (j v : ℕ) (ns : List ℕ) (u : ℕ) → v ≤ u → u < v + sum ns → OfOne (contours_from j v ns) u
@@ -185,12 +222,6 @@ sum_segments p = segments_from 0 0 p.lengths
 
 -- ---- their numbers
 
-pub numbers_from : (j v : ℕ) (ns : List ℕ) → All (λ c. c.number < j + length ns) (contours_from j v ns)
-unfolding contours_from
-numbers_from j v [] = tt
-numbers_from j v (zero ∷ ns) = all_give _ _ (λ c h. omega arith) (contours_from (suc j) v ns) (numbers_from (suc j) v ns)
-numbers_from j v (suc n ∷ ns) = (omega arith, all_give _ _ (λ c h. omega arith) (contours_from (suc j) (v + suc n) ns) (numbers_from (suc j) (v + suc n) ns))
-
 pub contours_numbered : (p : Plate) → All (λ c. c.number < length p.lengths) (contours p)
 unfolding contours
-contours_numbered p = all_give _ _ (λ c h. omega arith) (contours p) (numbers_from 0 0 p.lengths)
+contours_numbered p = all_give (PlacedFrom 0 0 p.lengths) _ (λ c h. omega (arith, h.most)) (contours p) (places_from 0 0 p.lengths)

@@ -6,7 +6,7 @@ use Rattle.std.proofs.Math.Path.{refl, sym, ap}
 use Rattle.std.proofs.Common.{subst}
 use Rattle.std.proofs.Math.Bool.{true, false}
 use mathlib.Core.List.{List, [], ◌∷◌, map}
-use Rattle.std.proofs.Math.Option.{Option, none, some, none-ne-some}
+use Rattle.std.proofs.Math.Option.{Option, none, some}
 use native.Mathlib.Omega.{arith}
 use Rattle.std.proofs.lemmas.Bool.{eqb-false}
 use borrow.Author.Tests.{eqb-true, le-leb, lt-leb, eq-eqb}
@@ -48,15 +48,6 @@ module _ {A : Type 0} (layer : A → ℕ) where
   pub taking_high : (x : A) → highest_layer < layer x → taking layer (some x) ≡ none
   unfolding taking pick
   taking_high x h = rw (lt-leb (layer x) highest_layer h)
-
-  taking_some : (o : Option A) (w : A) → taking layer o ≡ some w → o ≡ some w
-  unfolding taking pick
-  taking_some none w e = e
-  taking_some (some x) w e = go (leb (layer x) highest_layer) e
-    where
-      go : (b : Bool) → pick b (some x) none ≡ some w → some x ≡ some w
-      go true e = e
-      go false e = absurd (none-ne-some w e)
 
 -- the lead after one more
 unfoldable pub leads_in : {A : Type 0} → (A → ℕ) → (A → A → Bool) → Option A → A → Option A

@@ -5,13 +5,13 @@ pub mod Layers
 pub mod FloatOrder
 pub mod FiniteDistances
 pub mod Rows
-pub mod Accepted
+pub mod AcceptedInput
 pub mod Squares
 pub mod Rings
 pub mod Nearest
 pub mod Contours
-pub mod Waiting
+pub mod WaitingContours
 pub mod Start
-pub mod Ordering
+pub mod OrderTotals
 pub mod Steps
 pub mod Slices

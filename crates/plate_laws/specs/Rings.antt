@@ -4,15 +4,16 @@ use Rattle.std.proofs.Math.Bool.{true, false}
 use Rattle.std.proofs.Common.{⊎_elim, arith, T_not}
 use Prim.Native.Nat.{ℕ, zero, suc, ◌-◌, ◌≤◌, ◌<◌, max}
 use Rattle.std.proofs.Math.Dec.{not_T}
-use Rattle.std.specs.Float.Ieee.{lt, eq}
+use Rattle.std.specs.Float.Ieee.{lt, eq, le}
 use Rattle.std.proofs.Math.Facts.{or_no}
+use Rattle.std.proofs.lemmas.Float.{lt_of_lt_of_le}
 use Rattle.rules.specs.Tools.{pick}
 use Rattle.rules.specs.GridAndNearest.{Cell, square, within, on_border, PathPoint, found, wins, nearer, scan_ring, beyond, scan_from}
 use Rattle.rules.specs.declared.SpatialGrid.{SpatialGrid}
 use Rattle.rules.specs.declared.Nearest.{Nearest}
 use Rattle.rules.specs.declared.Nearest.TheVariants.{Found, Nothing}
 use Rattle.plate_laws.specs.Lists.{All, all_of, all_give, all_both, foldl-keeps}
-use Rattle.plate_laws.specs.FloatOrder.{Plus, lt_le_trans, lt_self}
+use Rattle.plate_laws.specs.FloatOrder.{Plus, lt_self}
 use Rattle.plate_laws.specs.Squares.{nine_cells}
 
 -- ---- what the search keeps
@@ -85,8 +86,8 @@ nearer_settles (Found i d) c = go (wins c i.0 d) (λ t. t)
     go true h = rw (lt_self c.squared) tt
     go false h = (or_no (lt c.squared d) _ (h tt)).0
 
-wins_le : (c : PathPoint) (i : ℕ) (d : Float) → T (wins c i d) → T (lt c.squared d || eq c.squared d)
-unfolding wins
+wins_le : (c : PathPoint) (i : ℕ) (d : Float) → T (wins c i d) → T (le c.squared d)
+unfolding wins le
 wins_le c i d t = go (lt c.squared d) (eq c.squared d) t
   where
     go : (a b : Bool) → T (a || (b && ltb i c.place)) → T (a || b)
@@ -107,7 +108,7 @@ nearer_keeps c h (Found i d) n m k = go (wins n i.0 d) (λ w. w)
     go true w = (
       m,
       not_T (lt c.squared n.squared)
-          (λ l. T_not (lt c.squared d) k.1 (lt_le_trans c.squared n.squared d h m k.0 l (wins_le n i.0 d (w tt)))),
+          (λ l. T_not (lt c.squared d) k.1 (lt_of_lt_of_le c.squared n.squared d l (wins_le n i.0 d (w tt)))),
     )
     go false w = k
 

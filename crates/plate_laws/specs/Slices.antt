@@ -1,5 +1,5 @@
 -- A path as slices: its coordinates and its marks. Assumes nothing.
-use Rattle.std.specs.Prelude.{◌≡◌, refl, List, [], ◌∷◌, ℕ, zero, suc, ◌+◌, ◌*◌, ◌<◌, Float, length, get_or}
+use Rattle.std.specs.Prelude.{◌≡◌, refl, List, [], ◌∷◌, ℕ, zero, suc, ◌+◌, ◌-◌, ◌*◌, ◌<◌, Float, length, get_or}
 use Rattle.std.proofs.Common.{ap, ◌∙◌, arith}
 use Rattle.std.proofs.lemmas.List.{length-map}
 use Rattle.std.proofs.Math.ListN.{get_or-map}
@@ -7,7 +7,7 @@ use Rattle.rules.specs.HandedOver.{at}
 use Rattle.rules.specs.Retrace.{step_at, vertex_of}
 use Rattle.rules.specs.Marks.{start_kind, Step, land, coordinates, marks, kind_at, reference_at, vertices}
 
--- ---- the slices' lengths, and what stands at path point k
+-- ---- the slices' lengths
 
 pub coordinates_length : (xs : List Float) (vs : List ℕ) → length (coordinates xs vs) ≡ 2 * length vs
 unfolding coordinates
@@ -23,11 +23,18 @@ pub vertices_length : (path : List Step) → length (vertices path) ≡ length p
 unfolding vertices
 vertices_length path = length-map path (λ (s : Step). s.vertex)
 
+-- ---- counting by ones and twos
+
+pub suc_minus_one : (k : ℕ) → suc k - 1 ≡ k
+suc_minus_one k = omega arith
+
 pub twice : (k : ℕ) → 2 * suc k ≡ suc (suc (2 * k))
 twice k = omega arith
 
 pub twice_one : (k : ℕ) → 2 * suc k + 1 ≡ suc (suc (2 * k + 1))
 twice_one k = omega arith
+
+-- ---- the marks at path point k
 
 pub kind_at_lem : (path : List Step) (k : ℕ) → k < length path → kind_at (marks path) k ≡ (step_at path k).kind
 unfolding kind_at marks step_at

@@ -9,7 +9,7 @@ use Rattle.rules.specs.Contours.{contour_count, IsContour}
 use Rattle.rules.specs.declared.Point.{Point}
 use Rattle.plate_laws.specs.Lists.{All, all-at, all_give}
 use Rattle.plate_laws.specs.Layers.{foremost_has, foremost_some, foremost_low}
-use Rattle.plate_laws.specs.Accepted.{Layered}
+use Rattle.plate_laws.specs.AcceptedInput.{Layered}
 use Rattle.plate_laws.specs.Contours.{all_contours, contours_numbered}
 
 pub all_ends : (P : Contour → Type 0) (p : Plate) (q : Point) (cs : List Contour) → All P cs → All (λ s. P s.contour) (ends p q cs)

@@ -59,8 +59,11 @@ ups_at path a (suc n) (suc i) e h =
     let later = ups_at (path ++ cut_up a ∷ []) (suc a) n i (ends_snoc path (cut_up a)) (omega arith) in
     rw (← append_snoc path (cut_up a) (map cut_up (up_from (suc a) n)), ← k) (later ∙ omega arith)
 
+pub run_length : (a n : ℕ) → length (map cut_up (up_from a n)) ≡ n
+run_length a n = omega (arith, length-map (up_from a n) cut_up, length_up_from a n)
+
 pub ups_length : (path : List Step) (a n : ℕ) → length (path ++ map cut_up (up_from a n)) ≡ length path + n
-ups_length path a n = omega (arith, length-append path (map cut_up (up_from a n)), length-map (up_from a n) cut_up, length_up_from a n)
+ups_length path a n = omega (arith, length-append path (map cut_up (up_from a n)), run_length a n)
 
 pub ups_end : (path : List Step) (a n : ℕ) → Ends path a → Ends (path ++ map cut_up (up_from a n)) (a + n)
 ups_end path a n e =

@@ -3,6 +3,7 @@
 use Rattle.std.specs.Prelude.{◌≡◌, refl, true, false, not, ℕ, ◌+◌, ◌*◌, ◌/◌, ◌%◌, ◌≤◌, ◌<◌, T, ℤ, Float}
 use Rattle.std.proofs.Common.{mul-pos, mul-le-mul_right, lt_of_lt_of_le, arith, pow_mono, shl_lt}
 use Rattle.std.proofs.Math.Decide.{dec_lt, ℕ_discrete}
+use Rattle.std.proofs.lemmas.Float as float
 use Rattle.std.specs.Float.{nan, inf, fin, Format, binary64}
 use Rattle.std.specs.Float.Ieee.{up, down, round, sum, add, mul, lt, le, fits, is_nan, to_bits}
 use Rattle.std.specs.Float.Ieee.Exact.{HasValue, round_exact}
@@ -11,8 +12,8 @@ use Rattle.std.specs.Float.Ieee.Order.{le_of_values, round_mono}
 use Rattle.rounding.specs.Magnitude.{IsMagnitude, subnormal_magnitude, normal_magnitude}
 use Rattle.rules.specs.Distances.{mul_add}
 use Rattle.plate_laws.specs.FiniteDistances.{unlike_self}
-use Rattle.point.specs.Squares.{unsigned, rounded, round_unsigned}
-use Rattle.point.specs.Order.{infinity_top, lt_turned, lt_le_trans}
+use Rattle.point.specs.Squares.{unsigned, rounded}
+use Rattle.point.specs.Order.{infinity_top}
 
 -- ---- a number of the format: rounding does not change it, and where it is below a rounded fraction it is not above the fraction
 
@@ -44,9 +45,8 @@ module _ (m : ℕ) (e : ℤ) (h : T (fits binary64 (fin false m e))) where
       go (yes k) =
           let up_to : T (le (round binary64 false a b) own) = round_mono binary64 a b (m * up e) (down e) B (down_pos e) (omega arith) in
           let same : T (le own y) = le_of_values own y (m * up e) (down e) (m * up e) (down e) (down_pos e) (down_pos e) own_value (refl, refl) (omega arith) in
-          let first : T (lt y own) = lt_le_trans y (round binary64 false a b) own (round_unsigned _ _ _) (round_unsigned _ _ _) l up_to in
-          let second : T (lt y y) = lt_le_trans y own y (round_unsigned _ _ _) tt first same in
-          absurd (rw (lt_turned y y second) at second)
+          let first : T (lt y own) = float.lt_of_lt_of_le y (round binary64 false a b) own l up_to in
+          absurd (float.lt_irrefl y (float.lt_of_lt_of_le y own y first same))
 
 -- ---- below a rounded square
 

@@ -3,16 +3,16 @@
 -- Assumes nothing.
 use Rattle.std.specs.Prelude.{◌≡◌, refl, Bool, true, false, not, ◌&&◌, T, negsuc, Float}
 use Rattle.std.proofs.lemmas.Bool.{false≢true}
-use Rattle.std.proofs.lemmas.Float.{T_from_true}
+use Rattle.std.proofs.lemmas.Float.{T_from_true, lt_of_lt_of_le}
 use Rattle.std.specs.Float.{nan, inf, fin, Format, binary64}
 use Rattle.std.specs.Float.Ieee.{add, sub, mul, lt, eq, fits, is_nan}
 use Rattle.std.specs.Float.Ieee.Bits.{is_true}
 use Rattle.std.specs.Float.Ieee.Fits.{mul-fits}
 use Rattle.rules.specs.Distances.{mul_add, distance_squared}
 use Rattle.rules.specs.declared.Point.{Point}
-use Rattle.point.specs.Squares.{unsigned, mul_unsigned, mul_add_unsigned}
-use Rattle.point.specs.UnsignedSums.{add_unsigned, product_unsigned}
-use Rattle.point.specs.Order.{not_below_nan, lt_turned, lt_not_eq, lt_le_trans}
+use Rattle.point.specs.Squares.{unsigned, mul_unsigned}
+use Rattle.point.specs.UnsignedProducts.{product_unsigned}
+use Rattle.point.specs.Order.{not_below_nan, lt_turned, lt_not_eq}
 use Rattle.point.specs.Below.{below_square, sum_at_most}
 
 -- ---- the test
@@ -51,7 +51,7 @@ below_bound y x z best fy uy uz hy hb =
     let l = T_from_true _ hb in
     let under = below_square y x fy uy (T_from_true _ hy) in
     is_true (lt best (mul_add binary64 x x z))
-    (lt_le_trans best (add binary64 y z) (mul_add binary64 x x z) (add_unsigned binary64 y z uy uz) (mul_add_unsigned binary64 x z uz) l
+    (lt_of_lt_of_le best (add binary64 y z) (mul_add binary64 x x z) l
     (sum_at_most binary64 y x z under uz (no_nan binary64 y z best l)))
 
 -- ---- where the test passes, the squared distance is above `best`

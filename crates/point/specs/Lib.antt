@@ -1,5 +1,5 @@
 pub mod Squares
-pub mod UnsignedSums
+pub mod UnsignedProducts
 pub mod Order
 pub mod Below
 pub mod Bound

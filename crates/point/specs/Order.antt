@@ -1,16 +1,10 @@
--- The order of floats, of both formats: what is below a float is neither above it nor equal to it, and is below all that this float is at most.
--- Assumes nothing.
-use Rattle.std.specs.Prelude.{◌≡◌, refl, Bool, true, false, ◌&&◌, ℕ, ◌+◌, ◌*◌, ◌≤◌, ◌<◌, T, eqb, Float}
+-- The order of floats, of both formats: what is below a float is neither above it nor equal to it. Assumes nothing.
+use Rattle.std.specs.Prelude.{◌≡◌, refl, Bool, true, false, ◌&&◌, ℕ, ◌+◌, ◌*◌, T, eqb, Float}
 use Rattle.std.proofs.Math.Bool.{and-false}
-use Rattle.std.proofs.Common.{mul-le-mul_right, mul-lt-mul_of_pos_right, lt_of_mul-lt-mul_right, arith, le-ltb, ne_eqb, ltb→lt, lt→ltb}
+use Rattle.std.proofs.Common.{arith, le-ltb, ne_eqb, ltb→lt}
 use Rattle.std.proofs.Math.Decide.{ℕ_discrete}
 use Rattle.std.specs.Float.{nan, inf, fin}
-use Rattle.std.specs.Float.Ieee.{up, down, below, level, lt, eq, le}
-use Rattle.std.specs.Float.Ieee.Bits.{is_true}
-use Rattle.std.specs.Float.Ieee.Fits.{down_pos}
-use Rattle.rounding.specs.Compare.{at_most}
-use Rattle.plate_laws.specs.FloatOrder.{cross}
-use Rattle.point.specs.Squares.{unsigned}
+use Rattle.std.specs.Float.Ieee.{up, down, below, level, lt, eq}
 
 -- ---- nothing is above the infinity, and nothing is below NaN
 
@@ -69,42 +63,3 @@ lt_not_eq (inf true) (fin t n d) h = refl
 lt_not_eq (inf false) y h = absurd (infinity_top y h)
 lt_not_eq (fin s m e) (inf false) h = refl
 lt_not_eq (fin s m e) (fin t n d) h = below_level s (m * up e * down d) t (n * up d * down e) h
-
--- ---- x < y and y ≤ z give x < z
-
--- of - a / p, b / q and c / r
-cross_negative : (a b c p q r : ℕ) → 0 < r → 0 < a * q + b * p → b * r ≤ c * q → 0 < a * r + c * p
-cross_negative a b c p q r R h k = lt_of_mul-lt-mul_right q (omega (arith, mul-lt-mul_of_pos_right h R, mul-le-mul_right p k))
-
-pub lt_le_trans : (x y z : Float) → T (unsigned y) → T (unsigned z) → T (lt x y) → T (le y z) → T (lt x z)
-unfolding lt le eq
-lt_le_trans nan y z uy uz h k = elim h [ ]
-lt_le_trans (inf true) nan z uy uz h k = elim h [ ]
-lt_le_trans (inf true) (inf false) nan uy uz h k = elim k [ ]
-lt_le_trans (inf true) (inf false) (inf true) uy uz h k = elim uz [ ]
-lt_le_trans (inf true) (inf false) (fin _ l c) uy uz h k = elim k [ ]
-lt_le_trans (inf true) (inf true) z uy uz h k = elim uy [ ]
-lt_le_trans (inf true) (fin false n d) nan uy uz h k = elim k [ ]
-lt_le_trans (inf true) (fin false n d) (inf true) uy uz h k = elim uz [ ]
-lt_le_trans (inf true) (fin false n d) (fin true l c) uy uz h k = elim uz [ ]
-lt_le_trans (inf true) (fin true n d) z uy uz h k = elim uy [ ]
-lt_le_trans (fin s m e) nan z uy uz h k = elim h [ ]
-lt_le_trans (fin s m e) (inf false) nan uy uz h k = elim k [ ]
-lt_le_trans (fin s m e) (inf false) (inf true) uy uz h k = elim uz [ ]
-lt_le_trans (fin s m e) (inf false) (fin _ l c) uy uz h k = elim k [ ]
-lt_le_trans (fin s m e) (inf true) z uy uz h k = elim uy [ ]
-lt_le_trans (fin s m e) (fin false n d) nan uy uz h k = elim k [ ]
-lt_le_trans (fin s m e) (fin false n d) (inf true) uy uz h k = elim uz [ ]
-lt_le_trans (fin false m e) (fin false n d) (fin true l c) uy uz h k = elim uz [ ]
-lt_le_trans (fin true m e) (fin false n d) (fin true l c) uy uz h k = elim uz [ ]
-lt_le_trans (fin s m e) (fin true n d) z uy uz h k = elim uy [ ]
-lt_le_trans (inf true) (inf false) (inf false) uy uz h k = tt
-lt_le_trans (inf true) (fin false n d) (inf false) uy uz h k = tt
-lt_le_trans (inf true) (fin false n d) (fin false l c) uy uz h k = tt
-lt_le_trans (inf false) y z uy uz h k = absurd (infinity_top y h)
-lt_le_trans (fin s m e) (inf false) (inf false) uy uz h k = tt
-lt_le_trans (fin s m e) (fin false n d) (inf false) uy uz h k = tt
-lt_le_trans (fin true m e) (fin false n d) (fin false l c) uy uz h k =
-    lt→ltb _ _ (cross_negative (m * up e) (n * up d) (l * up c) (down e) (down d) (down c) (down_pos c) (ltb→lt _ _ h) (at_most _ _ (is_true _ k)))
-lt_le_trans (fin false m e) (fin false n d) (fin false l c) uy uz h k =
-    lt→ltb _ _ (cross (m * up e) (n * up d) (l * up c) (down e) (down d) (down c) (down_pos c) (ltb→lt _ _ h) (at_most _ _ (is_true _ k)))

@@ -11,7 +11,7 @@ use Rattle.rules.specs.HandedOver.{Plate, Contour, contours_from}
 use Rattle.rules.specs.SamplesAndCache.{waiting, samples, cache}
 use Rattle.rules.specs.declared.Point.{Point}
 use Rattle.rules.specs.declared.SpatialGrid.{SpatialGrid}
-use Rattle.plate_laws.specs.Accepted.{Accepted}
+use Rattle.plate_laws.specs.AcceptedInput.{Accepted}
 use Rattle.plate_laws.specs.Lists.{All, all_give, all_both}
 use Rattle.work_layout.specs.Laid.{Laid}
 use Rattle.work_layout.specs.Parts.{from, KeptBelow, KeptFrom, Cleared}

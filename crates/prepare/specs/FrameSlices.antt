@@ -2,7 +2,7 @@
 use Rattle.std.specs.Prelude.{List, ℕ, Float}
 use Rattle.rules.specs.HandedOver.{Plate}
 use Rattle.rules.specs.SamplesAndCache.{Waiting}
-use Rattle.samples.specs.declared.Frame.{Frame}
+use Rattle.frame.specs.declared.Frame.{Frame}
 use Rattle.waiting.specs.Holds.{Holds, Changed}
 use Rattle.prepare.specs.PreparedSlices.{Prepared}
 

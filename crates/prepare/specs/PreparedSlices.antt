@@ -9,7 +9,7 @@ use Rattle.plate_laws.specs.Lists.{All}
 use Rattle.work_layout.specs.Laid.{Laid}
 use Rattle.work_layout.specs.Parts.{from}
 use Rattle.work_layout.specs.declared.Layout.{Layout}
-use Rattle.samples.specs.Chains.{first_of, is_in_cell, ChainedSamples}
+use Rattle.samples.specs.Chains.{first_of, is_sample_in, ChainedSamples}
 use Rattle.samples.specs.PlatedSlice.{Plated, plated_kept}
 
 -- xs are the points, ds and w the f64 and the u32 slice: the first has room for a distance of each contour
@@ -36,8 +36,8 @@ module _ (xs : List Float) (g : SpatialGrid) (lay : Layout) (w w' : List ℕ) (l
   owner_kept v l = kept (lay.owners + v) (omega (arith, laid)) (omega (arith, laid))
 
   test_kept : (c v : ℕ) → v < lay.points →
-      is_in_cell (from w lay.owners) (cell_at (at xs) g) c v ≡ is_in_cell (from w' lay.owners) (cell_at (at xs) g) c v
-  unfolding is_in_cell
+      is_sample_in (from w lay.owners) (cell_at (at xs) g) c v ≡ is_sample_in (from w' lay.owners) (cell_at (at xs) g) c v
+  unfolding is_sample_in
   test_kept c v l = rw (owner_kept v l)
 
   chained_kept : ChainedSamples xs g lay (from w lay.owners) w 0 → ChainedSamples xs g lay (from w' lay.owners) w' 0

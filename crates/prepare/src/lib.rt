@@ -6,7 +6,7 @@ ghost use Rattle.rules.specs.Limits.{most_points};
 ghost use Rattle.rules.specs.Tools.{sum};
 ghost use Rattle.rules.specs.HandedOver.{Plate, contours_from};
 ghost use Rattle.rules.specs.SamplesAndCache.{waiting};
-ghost use Rattle.plate_laws.specs.Accepted.{Accepted};
+ghost use Rattle.plate_laws.specs.AcceptedInput.{Accepted};
 ghost use Rattle.plate_laws.specs.Lists.{All};
 ghost use Rattle.work_layout.specs.Laid.{Laid};
 ghost use Rattle.work_layout.specs.Parts.{from, KeptBelow};
@@ -15,7 +15,8 @@ ghost use Rattle.prepare.specs.Marks.{MarkedPart};
 ghost use Rattle.prepare.specs.FrameSlices.{PreparedBy, HoldsBy};
 ghost use Rattle.prepare.specs.Reset.{Reset};
 
-use samples::{Frame, chain_samples, mark_samples};
+use frame::Frame;
+use samples::{chain_samples, mark_samples};
 use waiting::begin_waiting;
 use work_layout::{Layout, clear};
 

@@ -1,27 +1,27 @@
 -- A path that keeps the rules of marks, and of whose vertices none is missing, divides over the contours that are recovered from it, by its vertices: each segment
 -- is cut once, each contour is entered once, and each landing is on a contour of which no path point before has a vertex. So it divides by its points too. Assumes
 -- nothing.
-use Rattle.std.specs.Prelude.{◌≡◌, refl, Bool, true, false, ◌&&◌, List, [], map, ℕ, zero, suc, ◌+◌, ◌*◌, ◌≤◌, ◌<◌, T, length, get_or, Float}
+use Rattle.std.specs.Prelude.{◌≡◌, refl, Bool, true, false, List, [], map, ℕ, zero, suc, ◌+◌, ◌*◌, ◌≤◌, ◌<◌, T, length, get_or, Float}
 use Rattle.std.proofs.Common.{sym, ◌∙◌, subst, inl, inr, arith, ltb-false, true≢false}
 use Rattle.std.proofs.lemmas.Bool.{ltb-true}
 use Rattle.std.proofs.Math.Decide.{dec_le}
 use Rattle.rules.specs.Tools.{pick, sum, up_from}
 use Rattle.rules.specs.HandedOver.{Contour, at, contours_of}
 use Rattle.rules.specs.Marks.{cut_kind, count_marks, marks_of, kind_at, reference_at, vertices_after, vertex_in, cuts_of, enters, entries_of, marks_before}
-use Rattle.rules.specs.Contours.{Among, Of, OfOne, is_of, segments_of}
+use Rattle.rules.specs.Contours.{Among, Of, OfOne, segments_of}
 use Rattle.statement.specs.Division.{itself, PairOf, NotEntered, Unentered, Division}
 use Rattle.statement.specs.PathCheck.{DividesByPoints}
-use Rattle.contour_recovery.specs.ContourRecovery.{lands_on, landed, vertex_count, recovered_points, is_cut, recovered_lengths}
+use Rattle.contour_recovery.specs.ContourRecovery.{lands_on, landed, vertex_count, recovered_points, is_segment_cut, recovered_lengths}
 use Rattle.plate_laws.specs.Lists.{all_up_from, length_up_from}
 use Rattle.plate_laws.specs.Sums.{sum_ones, sum_same}
-use Rattle.plate_laws.specs.Contours.{all_among, among_all, Rising, from_on, rising_from, of_one, segments_from}
-use Rattle.division_laws.specs.MarkCounts.{count_here, count_rest, count_none, count_first, count_alone, count_all}
+use Rattle.plate_laws.specs.Contours.{all_among, among_all, Rising, PlacedFrom, places_from, rising_from, of_one, segments_from}
+use Rattle.division_laws.specs.MarkCounts.{count_here, count_rest, count_none, count_first, count_alone, count_all, cutting, entering}
 use Rattle.division.specs.Kinds.{says_cut, says_entry, landing_enters}
-use Rattle.division.specs.Tallies.{entering, cutting, of_kind, entries_add}
+use Rattle.division.specs.Tallies.{entering_any, of_kind, entries_add}
 use Rattle.division.specs.Counts.{cuts_are, jumps_are, points_are}
 use Rattle.division.specs.EnteredFirst.{Pairs, pairs_sorted, entered_later, entered, not_entered}
 use Rattle.division.specs.ByPoints.{division_by_points}
-use Rattle.recovery_laws.specs.Landed.{lands_there, landed_at, cut_lands, new_landing}
+use Rattle.recovery_laws.specs.LandedVertices.{lands_there, landed_at, cut_lands, new_landing}
 use Rattle.recovery_laws.specs.Runs.{runs_sum}
 use Rattle.round_trip.specs.LandingCounts.{sum_tight, landings, landings_add, landed_counts}
 use Rattle.recovered_check.specs.Runs.{JoinedRun, contours_run}
@@ -50,17 +50,18 @@ module _ {path : List Float} {ms : List ℕ} {n : ℕ} (kept : MarksKept path ms
 
   pub lengths_sum : sum (recovered_lengths ms m) ≡ m
   unfolding recovered_lengths
-  lengths_sum = runs_sum (is_cut ms) 0 m
+  lengths_sum = runs_sum (is_segment_cut ms) 0 m
 
-  run_of : (c : Contour) → Among c cs → JoinedRun (is_cut ms) m c
+  run_of : (c : Contour) → Among c cs → JoinedRun (is_segment_cut ms) m c
   unfolding recovered_lengths
-  run_of c i = let z : 0 + m ≡ m = omega arith in rw z at (all_among (JoinedRun (is_cut ms) (0 + m)) cs (contours_run (is_cut ms) 0 0 m) c i)
+  run_of c i = let z : 0 + m ≡ m = omega arith in rw z at (all_among (JoinedRun (is_segment_cut ms) (0 + m)) cs (contours_run (is_segment_cut ms) 0 0 m) c i)
 
   of_some : (u : ℕ) → u < m → OfOne cs u
   of_some u l = of_one (recovered_lengths ms m) u (omega (arith, l, lengths_sum))
 
   contour_under : (c : Contour) → Among c cs → c.first + c.last < m
-  contour_under c i = let h = all_among _ cs (from_on 0 0 (recovered_lengths ms m)) c i in omega (arith, h, lengths_sum)
+  contour_under c i =
+      let ns = recovered_lengths ms m in omega (arith, (all_among (PlacedFrom 0 0 ns) cs (places_from 0 0 ns) c i).inside, lengths_sum)
 
   -- ---- the pairs of neighbours, in whatever sense a landing's contour is new
 
@@ -75,7 +76,7 @@ module _ {path : List Float} {ms : List ℕ} {n : ℕ} (kept : MarksKept path ms
   -- the contour of a cut's segment
   segment : (k : ℕ) → suc k < n → kind_at ms (suc k) ≡ cut_kind → CutEnds kept k (reference_at ms (suc k)) →
       (c : Contour) × Among c cs × (c.first ≤ reference_at ms (suc k)) × (reference_at ms (suc k) < c.first + c.last)
-  unfolding is_cut
+  unfolding is_segment_cut
   segment k l e x = go (of_some r (omega (arith, next x)))
     where
       r : ℕ
@@ -162,7 +163,7 @@ module _ {path : List Float} {ms : List ℕ} {n : ℕ} (kept : MarksKept path ms
       subst (λ (y : ℕ). cuts_of y (marks_before (suc k) ms) ≡ 0) f (uncut k l e)
 
   cuts_once : (c : Contour) → Among c cs → (i : ℕ) → i < c.last → cuts_of (c.first + i) ms ≡ 1
-  unfolding cuts_of is_cut
+  unfolding cuts_of is_segment_cut
   cuts_once c j i l =
       let u = c.first + i in
       let some = ltb-true 0 (cuts_of u ms) ((run_of c j).inside i l) in
@@ -190,7 +191,7 @@ module _ {path : List Float} {ms : List ℕ} {n : ℕ} (kept : MarksKept path ms
         let some = ltb-true 0 (landings ms vs u n) (sym (landed_counts ms vs u n) ∙ all u l) in
         omega (arith, some, landings_most u n (omega arith))
 
-    entries_are : count_marks entering ms ≡ length cs
+    entries_are : count_marks entering_any ms ≡ length cs
     unfolding marks_of segments_of
     entries_are =
         let once = all_up_from (λ u. landings ms vs u n ≡ 1) 0 m (λ u a b. landings_once u (omega (arith, b))) in
@@ -200,7 +201,7 @@ module _ {path : List Float} {ms : List ℕ} {n : ℕ} (kept : MarksKept path ms
           sum_same (λ u. landings ms vs u n) (λ u. 1) (up_from 0 m) once,
           sum_ones (up_from 0 m),
           length_up_from 0 m,
-          count_all entering ms n kept.whole,
+          count_all entering_any ms n kept.whole,
           count_all (of_kind cut_kind) ms n kept.whole,
           cuts_full,
           segments_from 0 0 (recovered_lengths ms m),
@@ -216,7 +217,7 @@ module _ {path : List Float} {ms : List ℕ} {n : ℕ} (kept : MarksKept path ms
         let e = lands_there ms vs j c.first t in
         let some = entered pairs rising j l c i (omega (arith, e), omega (arith, e)) in
         let o = entered_later pairs c (suc j) n (omega (arith, l)) (omega arith) some in
-        omega (arith, o, count_all (λ kind r. enters kind && is_of c r) ms n kept.whole)
+        omega (arith, o, count_all (entering c) ms n kept.whole)
 
     entered_once : (c : Contour) → Among c cs → entries_of c ms ≡ 1
     entered_once c i =
@@ -229,7 +230,7 @@ module _ {path : List Float} {ms : List ℕ} {n : ℕ} (kept : MarksKept path ms
     unentered : (k : ℕ) → suc k < n → T (enters (kind_at ms (suc k))) → (c : Contour) → Among c cs → Of c (reference_at ms (suc k)) → Unentered ms k c
     unfolding entries_of
     unentered k l t c j o =
-        count_alone (λ kind r. enters kind && is_of c r) ms (suc k) (omega (arith, kept.whole, l)) (entered_once c j)
+        count_alone (entering c) ms (suc k) (omega (arith, kept.whole, l)) (entered_once c j)
         ((says_entry c (kind_at ms (suc k)) (reference_at ms (suc k))).told (t, o))
 
     pub recovered_division : Division cs (at path) itself (vertex_in ms) (NotEntered (vertex_in ms)) n ms
@@ -241,7 +242,7 @@ module _ {path : List Float} {ms : List ℕ} {n : ℕ} (kept : MarksKept path ms
           pairs = λ k l. new_pair k l (pairs.pairs k l);
           cuts = cuts_full;
           jumps = jumps_are rising sorted cuts_once entered_once;
-          all = points_are rising sorted cuts_once entered_once;
+          points = points_are rising sorted cuts_once entered_once;
           once = cuts_once;
         }
       where

@@ -9,6 +9,7 @@
 use Rattle.std.specs.Prelude.{◌≡◌, refl, true, List, [], ◌++◌, map, ℕ, ◌+◌, ◌*◌, ◌/◌, ◌≤◌, ◌<◌, length, take, drop, Float}
 use Rattle.std.proofs.Common.{ap, ◌∙◌, arith, ltb-false, eqb-true}
 use Rattle.std.proofs.Math.Seq.{take-append_seam}
+use Rattle.rules.specs.Limits.{most_contours, most_points}
 use Rattle.rules.specs.Tools.{up_from, first_failing}
 use Rattle.rules.specs.HandedOver.{contours_of, Answer, gives, refuses, plate_limit, first_off, out_of_range, off_the_plate, work_short, no_room, over, written}
 use Rattle.rules.specs.Marks.{vertices_after}
@@ -17,14 +18,14 @@ use Rattle.contour_recovery.specs.ContourRecovery.{landed, consistent, vertex_co
 use Rattle.rules.specs.declared.Recovered.{Recovered}
 use Rattle.plate_laws.specs.Lists.{All, all_map, all_up_from}
 use Rattle.plate_laws.specs.FiniteDistances.{OnPlate}
-use Rattle.plate_laws.specs.Accepted.{Accepted, first_off_lem}
+use Rattle.plate_laws.specs.AcceptedInput.{Accepted, first_off_lem}
 use Rattle.plate_laws.specs.Rows.{rows_give}
 use Rattle.division_laws.specs.Checks.{Matched, check_passes}
 use Rattle.division.specs.Theorem.{check_decides}
-use Rattle.recovery_laws.specs.Failing.{PassBefore, first_pass}
+use Rattle.recovery_laws.specs.FirstFailing.{PassBefore, first_pass}
 use Rattle.recovery_laws.specs.ByKind.{rule_within}
 use Rattle.recovery_laws.specs.Points.{points_length}
-use Rattle.recovery_laws.specs.Landed.{count_small, place_lands}
+use Rattle.recovery_laws.specs.LandedVertices.{count_small, place_lands}
 use Rattle.round_trip.specs.Points.{coordinates_on}
 use Rattle.recovered_check.specs.Vertices.{MarksKept}
 use Rattle.recovered_check.specs.Entries.{lengths_sum, recovered_division, recovered_divides}
@@ -52,7 +53,7 @@ module _ {path : List Float} {ms : List ℕ} {n : ℕ} (f : ReadPath path ms n) 
   abbrev ns : List ℕ
   ns = recovered_lengths ms (vertex_count ms (vertices_after [] ms) n)
 
-  few : m ≤ 65536
+  few : m ≤ most_points
   few = count_small ms vs n (λ j l. rule_within path ms vs j (f.kept.rules j l))
 
   points_on : All OnPlate xs
@@ -63,7 +64,7 @@ module _ {path : List Float} {ms : List ℕ} {n : ℕ} (f : ReadPath path ms n) 
       (λ v a b. omega (arith, (place_lands ms vs v n (f.landed v (omega (arith, b)))).0, f.whole)) in
       coordinates_on path (map place (up_from 0 m)) f.on_plate (all_map _ place (up_from 0 m) inside)
 
-  check_accepts : (work : ℕ) → length ns ≤ 4096 → m + length ns ≤ work → check_call xs ns path ms work ≡ gives tt
+  check_accepts : (work : ℕ) → length ns ≤ most_contours → m + length ns ≤ work → check_call xs ns path ms work ≡ gives tt
   unfolding CheckDecides
   check_accepts work h l =
       let half : length path / 2 ≡ n = omega (arith, f.whole) in

@@ -1,6 +1,6 @@
 -- Path points that keep the rules of marks: how each pair of neighbours goes from vertex to vertex, that each path point's vertex is landed on there or before,
 -- and that its point is the one landed on. Assumes nothing.
-use Rattle.std.specs.Prelude.{◌≡◌, refl, ◌⊎◌, Bool, true, false, ◌||◌, List, [], ℕ, zero, suc, ◌-◌, ◌*◌, ◌≤◌, ◌<◌, eqb, length, get_or, Float}
+use Rattle.std.specs.Prelude.{◌≡◌, refl, ◌⊎◌, Bool, true, false, ◌||◌, List, [], ℕ, zero, suc, ◌*◌, ◌≤◌, ◌<◌, eqb, length, get_or, Float}
 use Rattle.std.proofs.Common.{sym, ◌∙◌, inl, inr, arith, eqb-true}
 use Rattle.rules.specs.Tools.{pick}
 use Rattle.rules.specs.HandedOver.{at}
@@ -8,13 +8,14 @@ use Rattle.rules.specs.Bits.{same_point}
 use Rattle.rules.specs.Marks.{start_kind, cut_kind, back_step_kind, touch_kind, landing_kind, kind_at, reference_at, vertices_after}
 use Rattle.statement.specs.Division.{BackStep, JumpOrTouch, IsJumpOrTouch}
 use Rattle.contour_recovery.specs.ContourRecovery.{lands_on, landed, consistent, vertex_count, landing_place, recovered_points}
+use Rattle.plate_laws.specs.Slices.{suc_minus_one}
 use Rattle.division_laws.specs.Maps.{kind_tells}
 use Rattle.division_laws.specs.SameBits.{says_point}
 use Rattle.division.specs.Kinds.{start_enters, landing_enters}
 use Rattle.recovery_laws.specs.Vertices.{vertex_landed, vertex_cut, vertex_back}
 use Rattle.recovery_laws.specs.ByKind.{start_rule, cut_rule, back_rule, landing_rule, rule_known}
 use Rattle.recovery_laws.specs.Points.{point_at}
-use Rattle.recovery_laws.specs.Landed.{entry_lands, cut_lands, landed_at, at_landed, count_above, landing_place_is}
+use Rattle.recovery_laws.specs.LandedVertices.{entry_lands, cut_lands, landed_at, at_landed, count_above, landing_place_is}
 
 -- each kind that a mark may have
 kind_case : (kind : ℕ) → kind ≤ touch_kind → (kind ≡ start_kind) ⊎ (kind ≡ cut_kind) ⊎ (kind ≡ back_step_kind) ⊎ IsJumpOrTouch kind
@@ -78,18 +79,15 @@ module _ {path : List Float} {ms : List ℕ} {n : ℕ} (kept : MarksKept path ms
     abbrev r : ℕ
     r = reference_at ms (suc k)
 
-    back : suc k - 1 ≡ k
-    back = omega arith
-
     pub goes_cut : kind ≡ cut_kind → CutEnds k r
     goes_cut e =
-        let rule = rw back at (sym (cut_rule path ms vs (suc k) e) ∙ kept.rules (suc k) l) in
-        let named = rw back at (vertex_cut ms n (suc k) kept.whole l e (omega arith)) in
+        let rule = rw (suc_minus_one k) at (sym (cut_rule path ms vs (suc k) e) ∙ kept.rules (suc k) l) in
+        let named = rw (suc_minus_one k) at (vertex_cut ms n (suc k) kept.whole l e (omega arith)) in
         cut_ends (v k) (v (suc k)) r (grind (arith, rule)) named
 
     goes_back : kind ≡ back_step_kind → BackStep v k r × (at path (suc k) ≡ at path r)
     goes_back e =
-        let rule = rw back at (sym (back_rule path ms vs (suc k) e) ∙ kept.rules (suc k) l) in
+        let rule = rw (suc_minus_one k) at (sym (back_rule path ms vs (suc k) e) ∙ kept.rules (suc k) l) in
         let same : same_point (at path (suc k)) (at path r) ≡ true = grind (arith, rule) in
         let before : suc r < suc k = grind (arith, rule) in (
           record {
@@ -102,7 +100,7 @@ module _ {path : List Float} {ms : List ℕ} {n : ℕ} (kept : MarksKept path ms
 
     goes_landing : IsJumpOrTouch kind → JumpOrTouch (at path k) (at path (suc k)) kind × (v (suc k) ≡ r)
     goes_landing j =
-        let rule = rw back at (sym (landing_rule path ms vs (suc k) j) ∙ kept.rules (suc k) l) in
+        let rule = rw (suc_minus_one k) at (sym (landing_rule path ms vs (suc k) j) ∙ kept.rules (suc k) l) in
         let named : kind ≡ landing_kind (at path k) (at path (suc k)) = eqb-true _ _ (grind (arith, rule)) in (
           rw named (kind_tells (at path k) (at path (suc k))),
           vertex_landed ms n (suc k) kept.whole l

@@ -9,11 +9,11 @@ use Rattle.landings.specs.LandedBefore.{LandedBefore, landed_same}
 use Rattle.path_vertices.specs.ReadTo.{ReadTo}
 use Rattle.contour_recovery.specs.ContourRecovery.{landed, consistent, vertex_count}
 use Rattle.recovery_laws.specs.AllLanded.{all_landed}
-use Rattle.recovery_laws.specs.Landed.{count_small}
+use Rattle.recovery_laws.specs.LandedVertices.{count_small}
 use Rattle.recovery_laws.specs.Vertices.{vertices_length}
 use Rattle.recovery_parts.specs.PointPlaces.{LandedOnce}
 use Rattle.recovery.specs.Parts.{mark_rows}
-use Rattle.recovery_laws.specs.Failing.{PassBefore}
+use Rattle.recovery_laws.specs.FirstFailing.{PassBefore}
 use Rattle.recovery.specs.Rows.{SoundPath, marks_pass}
 use Rattle.recovery.specs.VertexPlaces.{landed_once, kept_within}
 

@@ -9,7 +9,7 @@ use Rattle.rules.specs.Marks.{vertices_after}
 use Rattle.statement.specs.PathCheck.{miscounted_path}
 use Rattle.plate_laws.specs.Rows.{Passed}
 use Rattle.contour_recovery.specs.ContourRecovery.{consistent, landed, vertex_count, marks_inconsistent, vertex_missing}
-use Rattle.recovery_laws.specs.Failing.{PassBefore, none_found}
+use Rattle.recovery_laws.specs.FirstFailing.{PassBefore, none_found}
 use Rattle.recovery.specs.Parts.{path_rows, mark_rows, vertex_rows}
 
 -- ---- refusals 3, 4 and 5

@@ -6,9 +6,9 @@ use Rattle.std.proofs.Math.Decide.{dec_le}
 use Rattle.rules.specs.Limits.{highest_vertex}
 use Rattle.contour_recovery.specs.ContourRecovery.{landed, consistent, vertex_count}
 use Rattle.recovery_laws.specs.ByKind.{rule_within}
-use Rattle.recovery_laws.specs.Landed.{at_landed, count_above, place_lands, landing_place_is}
+use Rattle.recovery_laws.specs.LandedVertices.{at_landed, count_above, place_lands, landing_place_is}
 use Rattle.recovery_parts.specs.PointPlaces.{LandedOnce}
-use Rattle.recovery_laws.specs.Failing.{PassBefore}
+use Rattle.recovery_laws.specs.FirstFailing.{PassBefore}
 
 module _ (ms vs : List ℕ) where
   pub count_none : (n : ℕ) → 0 < vertex_count ms vs n → 0 < n

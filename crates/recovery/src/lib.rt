@@ -11,7 +11,7 @@ ghost use Rattle.rules.specs.Marks.{vertices_after};
 ghost use Rattle.contour_recovery.specs.ContourRecovery as rule;
 ghost use Rattle.landings.specs.LandedBefore.{LandedBefore};
 ghost use Rattle.path_vertices.specs.ReadTo.{ReadTo};
-ghost use Rattle.recovery_laws.specs.Failing.{PassBefore};
+ghost use Rattle.recovery_laws.specs.FirstFailing.{PassBefore};
 ghost use Rattle.recovery.specs.Parts.{path_rows, mark_rows, vertex_rows};
 
 use landings::Landings;

@@ -6,7 +6,7 @@ use Rattle.rules.specs.Tools.{pick, sum, any, up_from}
 use Rattle.contour_recovery.specs.ContourRecovery.{lands_on, landed}
 use Rattle.plate_laws.specs.Lists.{All, all_of, all_up_from, length_up_from}
 use Rattle.plate_laws.specs.Sums.{sum_zeros, sum_ones, indicator, sum_absent, sum_once, sum_same}
-use Rattle.recovery_laws.specs.Landed.{any_more, lands_there}
+use Rattle.recovery_laws.specs.LandedVertices.{any_more, lands_there}
 
 sum_under : {A : Type 0} (f g h : A → ℕ) (xs : List A) → All (λ x. f x ≤ g x + h x) xs → sum (map f xs) ≤ sum (map g xs) + sum (map h xs)
 unfolding sum

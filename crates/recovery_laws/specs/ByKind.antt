@@ -3,6 +3,7 @@ use Rattle.std.specs.Prelude.{length, [], ◌≡◌, refl, Bool, true, false, no
 use Rattle.std.proofs.Common.{◌∙◌, inl, inr, arith, eq-eqb}
 use Rattle.std.proofs.lemmas.Bool.{lt-leb, le-leb}
 use Rattle.std.proofs.Math.Decide.{dec_le}
+use Rattle.rules.specs.Limits.{highest_vertex}
 use Rattle.rules.specs.Tools.{pick}
 use Rattle.rules.specs.HandedOver.{at}
 use Rattle.rules.specs.Bits.{same_point}
@@ -13,7 +14,7 @@ use Rattle.recovery_laws.specs.Vertices.{vertex_back}
 
 -- Vertex v may be landed on by path point i: it is not above 65,535, and not landed on before.
 unfoldable pub fresh : List ℕ → List ℕ → ℕ → ℕ → Bool
-fresh ms vs i v = leb v 65535 && not (landed ms vs i v)
+fresh ms vs i v = leb v highest_vertex && not (landed ms vs i v)
 
 module _ (path : List Float) (ms vs : List ℕ) (i : ℕ) where
   abbrev v : ℕ
@@ -37,7 +38,7 @@ module _ (path : List Float) (ms vs : List ℕ) (i : ℕ) where
 
   -- a back-step's path point k + 1 is an earlier one, so it is not the first itself
   pub back_rule : kind_at ms i ≡ back_step_kind →
-      consistent path ms vs i ≡ ltb (suc r) i && eqb before (get_or vs (suc r) 0) && leb v 65535 && same_point (at path i) (at path r)
+      consistent path ms vs i ≡ ltb (suc r) i && eqb before (get_or vs (suc r) 0) && leb v highest_vertex && same_point (at path i) (at path r)
   unfolding fresh consistent known_kind vertex_in_range cuts_from_an_end returns_over_a_pair starts_first lands_once returns_to_bits jumps_apart
       only_where lands_on enters
   back_rule e = rw e (grind arith)
@@ -60,7 +61,7 @@ module _ (path : List Float) (ms vs : List ℕ) (i : ℕ) where
   unfolding consistent known_kind
   rule_known e = grind arith
 
-  pub rule_within : consistent path ms vs i ≡ true → v ≤ 65535
+  pub rule_within : consistent path ms vs i ≡ true → v ≤ highest_vertex
   unfolding consistent vertex_in_range
   rule_within e = grind arith
 
@@ -73,7 +74,7 @@ module _ (path : List Float) (ms vs : List ℕ) (i : ℕ) where
 module _ (path : List Float) (ms : List ℕ) (n i : ℕ) (whole : length ms ≡ 2 * n) (inside : i < n)
     (earlier : (j : ℕ) → j < i → consistent path ms (vertices_after [] ms) j ≡ true) where
   -- its vertex is an earlier path point's
-  pub back_within : kind_at ms i ≡ back_step_kind → reference_at ms i < i → get_or (vertices_after [] ms) i 0 ≤ 65535
+  pub back_within : kind_at ms i ≡ back_step_kind → reference_at ms i < i → get_or (vertices_after [] ms) i 0 ≤ highest_vertex
   back_within e h =
       let k = reference_at ms i in
       rw (vertex_back ms n i whole inside e h) (rule_within path ms (vertices_after [] ms) k (earlier k h))

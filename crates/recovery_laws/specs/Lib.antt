@@ -1,7 +1,7 @@
-pub mod Failing
+pub mod FirstFailing
 pub mod Vertices
 pub mod ByKind
-pub mod Landed
+pub mod LandedVertices
 pub mod AllLanded
 pub mod Runs
 pub mod Points

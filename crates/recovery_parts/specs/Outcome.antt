@@ -5,7 +5,7 @@ use Rattle.std.proofs.lemmas.Bool.{lt-ltb, le-ltb}
 use Rattle.rules.specs.Tools.{pick}
 use Rattle.rules.specs.HandedOver.{Answer, gives, refuses, refused_by, no_room}
 use Rattle.rules.specs.declared.Recovered.{Recovered}
-use Rattle.contour_recovery.specs.ContourRecovery.{recovered_points, recovered_lengths, is_cut}
+use Rattle.contour_recovery.specs.ContourRecovery.{recovered_points, recovered_lengths, is_segment_cut}
 use Rattle.recovery_laws.specs.Runs.{runs_same}
 use Rattle.recovery_parts.specs.Flags.{flagged, flagged_runs, Flags}
 use Rattle.recovery_laws.specs.Points.{points_length}
@@ -13,7 +13,7 @@ use Rattle.recovery_laws.specs.Points.{points_length}
 -- the runs are those that cuts join
 pub flagged_recovered : (ms flags : List ℕ) (m : ℕ) → length flags ≡ m → Flags ms flags → flagged_runs flags ≡ recovered_lengths ms m
 unfolding flagged_runs Flags recovered_lengths
-flagged_recovered ms flags m e f = rw e (runs_same (flagged flags) (is_cut ms) 0 m (λ u a b. f u (omega (arith, b, e))))
+flagged_recovered ms flags m e f = rw e (runs_same (flagged flags) (is_segment_cut ms) 0 m (λ u a b. f u (omega (arith, b, e))))
 
 module _ (path : List Float) (ms vs : List ℕ) (n m room spare : ℕ) where
   abbrev xs : List Float

@@ -10,7 +10,7 @@ use Rattle.rules.specs.HandedOver.{at, over}
 use Rattle.slices.specs.Over.{over_length}
 use Rattle.contour_recovery.specs.ContourRecovery.{lands_on, landing_place, recovered_points}
 use Rattle.recovery_laws.specs.Points.{points_length, point_at}
-use Rattle.recovery_laws.specs.Landed.{lands, lands_on_it}
+use Rattle.recovery_laws.specs.LandedVertices.{lands, lands_on_it}
 
 -- each of the first m vertices, and no other, is landed on, and in one place
 pub record LandedOnce (ms vs : List ℕ) (m : ℕ) : Type 0 where

@@ -3,7 +3,7 @@ use Rattle.std.specs.Prelude.{◌≡◌, refl, Bool, true, false, List, ℕ, ◌
 use Rattle.std.proofs.Common.{arith, add-one}
 use Rattle.rules.specs.Tools.{pick}
 use Rattle.contour_recovery.specs.ContourRecovery.{vertex_count}
-use Rattle.recovery_laws.specs.Landed.{lands, lands_on_it}
+use Rattle.recovery_laws.specs.LandedVertices.{lands, lands_on_it}
 
 module _ (ms vs : List ℕ) (i : ℕ) where
   abbrev v : ℕ

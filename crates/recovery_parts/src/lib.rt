@@ -6,14 +6,14 @@ ghost use Rattle.rules.specs.Limits.{most_points};
 ghost use Rattle.rules.specs.HandedOver.{over, gives, refused_by, no_room, written};
 ghost use Rattle.contour_recovery.specs.ContourRecovery as rule;
 ghost use Rattle.recovery_parts.specs.Flags.{flagged, flagged_runs, Flags};
-ghost use Rattle.recovery_laws.specs.Landed.{lands};
+ghost use Rattle.recovery_laws.specs.LandedVertices.{lands};
 ghost use Rattle.recovery_parts.specs.Lengths.{ends};
 ghost use Rattle.recovery_parts.specs.PointPlaces.{LandedOnce};
 
 use rules::{CUT, JUMP, Recovered, RecoveryRefusal, START, TOUCH};
 
 // Whether path point i lands on its vertex: by a start, a jump, a touch or a cut.
-#[tactic(auto, unfolding(recovery_laws::specs::Landed::lands, rules::specs::Marks::enters, rules::specs::Marks::kind_at))]
+#[tactic(auto, unfolding(recovery_laws::specs::LandedVertices::lands, rules::specs::Marks::enters, rules::specs::Marks::kind_at))]
 fn lands(marks: &[u32], i: usize) -> bool
     requires { 2 * i < length marks.now }
     ensures { result ≡ lands marks.now i }

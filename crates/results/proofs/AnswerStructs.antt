@@ -35,16 +35,12 @@ unfolding told distance_result
 distance_told (gives d) = refl
 distance_told (refuses n k) = refl
 
-number_is : (b : Bool) → from_bool b ≡ pick b 1 0
-unfolding pick
-number_is true = refl
-number_is false = refl
-
 pub start_told :
     (a : Answer (ℕ × Bool)) →
     let t = told a (0, false) in record { number = t.0; place = t.1; contour = t.2.0; reversed = from_bool t.2.1 } ≡ start_result a
-unfolding told start_result
-start_told (gives s) = rw number_is refl
+unfolding told start_result pick
+start_told (gives (n, true)) = refl
+start_told (gives (n, false)) = refl
 start_told (refuses n k) = refl
 
 -- totals of a refusal

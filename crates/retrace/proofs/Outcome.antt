@@ -21,13 +21,13 @@ use Rattle.rules.specs.Box.{box}
 use Rattle.statement.specs.HowNear.{LandingsNear, written_points, HowNear}
 use Rattle.statement.specs.Quotation.{Quoted, LengthStatement}
 use Rattle.plate_laws.specs.Rows.{Other, rows_give, rows_lack, rows_pass, rows_append, refusal_refuses}
-use Rattle.plate_laws.specs.Accepted.{Accepted, input_lacks}
+use Rattle.plate_laws.specs.AcceptedInput.{Accepted, input_lacks}
 use Rattle.plate_laws.specs.Start.{AllTakePart}
 use Rattle.plate_laws.specs.Slices.{coordinates_length, vertices_length, marks_length}
 use Rattle.path.specs.Theorem.{path_statement}
 use Rattle.path.specs.NeverFall.{layer_statement}
 use Rattle.near.specs.Theorem.{how_near}
-use Rattle.length_laws.specs.Walked.{Walked}
+use Rattle.length_laws.specs.WalkedPath.{Walked}
 use Rattle.lengths.specs.Walks.{retrace_walked}
 use Rattle.lengths.specs.Theorem.{length_statement}
 use Rattle.slices.specs.Pairs.{pairs_take, coordinates_take}

@@ -10,8 +10,8 @@ use Rattle.plate_laws.specs.Sums.{sum_zeros}
 use Rattle.division_laws.specs.Says.{says_and, says_leb, says_ltb}
 use Rattle.division_laws.specs.MarkCounts.{passing, count_step, count_all}
 use Rattle.division.specs.Kinds.{no_entry}
-use Rattle.division.specs.Tallies.{sum_add, run_one, entering, of_kind}
-use Rattle.recovery_laws.specs.Landed.{lands, landed_more}
+use Rattle.division.specs.Tallies.{sum_add, run_one, entering_any, of_kind}
+use Rattle.recovery_laws.specs.LandedVertices.{lands, landed_more}
 
 -- ---- sums
 
@@ -57,7 +57,7 @@ module _ (ms vs : List ℕ) where
 
   -- a path point with a vertex below m lands on one of these, or on none
   share : (m i : ℕ) → get_or vs i 0 < m →
-      sum (map (λ v. pick (lands_on ms vs v i) 1 0) (up_from 0 m)) ≡ passing entering ms i + passing (of_kind cut_kind) ms i
+      sum (map (λ v. pick (lands_on ms vs v i) 1 0) (up_from 0 m)) ≡ passing entering_any ms i + passing (of_kind cut_kind) ms i
   unfolding lands_on lands
   share m i h =
       let u = get_or vs i 0 in
@@ -74,7 +74,7 @@ module _ (ms vs : List ℕ) where
 
   module _ (n : ℕ) (whole : length ms ≡ 2 * n) (m : ℕ) (below : (i : ℕ) → i < n → get_or vs i 0 < m) where
     pub landings_add : (i : ℕ) → i ≤ n →
-        sum (map (λ v. landings v i) (up_from 0 m)) ≡ count_marks entering (marks_before i ms) + count_marks (of_kind cut_kind) (marks_before i ms)
+        sum (map (λ v. landings v i) (up_from 0 m)) ≡ count_marks entering_any (marks_before i ms) + count_marks (of_kind cut_kind) (marks_before i ms)
     unfolding landings count_marks
     landings_add zero l = sum_zeros _ (up_from 0 m) (all_of _ (λ v. refl) (up_from 0 m))
     landings_add (suc i) l =
@@ -83,12 +83,12 @@ module _ (ms vs : List ℕ) where
           sum_add (λ v. landings v i) (λ v. pick (lands_on ms vs v i) 1 0) (up_from 0 m),
           landings_add i (omega arith),
           share m i (below i l),
-          count_step entering ms i (omega (arith, whole)),
+          count_step entering_any ms i (omega (arith, whole)),
           count_step (of_kind cut_kind) ms i (omega (arith, whole)),
         )
 
     -- where m path points land, and one or more on each of the m vertices, one lands on each
-    pub each_once : count_marks entering ms + count_marks (of_kind cut_kind) ms ≡ m → ((v : ℕ) → v < m → 1 ≤ landings v n) →
+    pub each_once : count_marks entering_any ms + count_marks (of_kind cut_kind) ms ≡ m → ((v : ℕ) → v < m → 1 ≤ landings v n) →
         (v : ℕ) → v < m → landings v n ≡ 1
     each_once e some v l =
         let all = all_up_from (λ u. 1 ≤ landings u n) 0 m (λ u a b. some u (omega (arith, b))) in
@@ -96,7 +96,7 @@ module _ (ms vs : List ℕ) where
         omega (
           arith,
           landings_add n (omega arith),
-          count_all entering ms n whole,
+          count_all entering_any ms n whole,
           count_all (of_kind cut_kind) ms n whole,
           length_up_from 0 m,
           e,

@@ -1,23 +1,23 @@
 -- What divides lands on each of the plate's vertices, and once. Assumes nothing.
-use Rattle.std.specs.Prelude.{◌≡◌, ◌⊎◌, Bool, true, ◌&&◌, List, [], ℕ, zero, suc, ◌+◌, ◌-◌, ◌≤◌, ◌<◌, Float}
+use Rattle.std.specs.Prelude.{◌≡◌, ◌⊎◌, true, List, [], ℕ, zero, suc, ◌+◌, ◌-◌, ◌≤◌, ◌<◌, Float}
 use Rattle.std.proofs.Common.{sym, subst, inl, inr, arith}
 use Rattle.std.proofs.Math.Decide.{dec_le}
 use Rattle.rules.specs.Tools.{sum}
 use Rattle.rules.specs.HandedOver.{Plate, Contour, at, contours}
-use Rattle.rules.specs.Marks.{cut_kind, marks_of, kind_at, reference_at, vertices_after, vertex_in, cuts_of, enters, entries_of}
+use Rattle.rules.specs.Marks.{cut_kind, marks_of, kind_at, reference_at, vertices_after, vertex_in, cuts_of, entries_of}
 use Rattle.statement.specs.PathStatement.{Divides}
 use Rattle.statement.specs.Division.{itself, Cut, PairOf, NotEntered}
-use Rattle.rules.specs.Contours.{segments_of, Among, Of, OfOne, OfContour, is_of}
+use Rattle.rules.specs.Contours.{segments_of, Among, Of, OfOne, OfContour}
 use Rattle.contour_recovery.specs.ContourRecovery.{lands_on}
 use Rattle.rules.specs.declared.Point.{Point}
 use Rattle.rules.specs.declared.Totals.{Totals}
 use Rattle.plate_laws.specs.Contours.{contours_rise, contour_in, of_one, sum_segments}
-use Rattle.division_laws.specs.MarkCounts.{count_all, count_some}
+use Rattle.division_laws.specs.MarkCounts.{count_all, count_some, cutting, entering}
 use Rattle.division.specs.Kinds.{says_cut, says_entry, start_enters, landing_enters, cut_pair}
-use Rattle.division.specs.Tallies.{within_run, cutting}
+use Rattle.division.specs.Tallies.{within_run}
 use Rattle.division.specs.EnteredFirst.{division_pairs, entry_vertex}
 use Rattle.division.specs.ByPoints.{entries_are, entered_once}
-use Rattle.recovery_laws.specs.Landed.{entry_lands, cut_lands}
+use Rattle.recovery_laws.specs.LandedVertices.{entry_lands, cut_lands}
 use Rattle.round_trip.specs.LandingCounts.{landings, landings_some, each_once}
 
 module _ {p : Plate} {c : Totals} {path : List Float} {ms : List ℕ} (d : Divides p c path ms) where
@@ -103,8 +103,9 @@ module _ {p : Plate} {c : Totals} {path : List Float} {ms : List ℕ} (d : Divid
   entry_passed : (x : Contour) → Among x cs → (k : ℕ) × (k < n) × Of x (v k)
   unfolding entries_of
   entry_passed x m =
-      let test : ℕ → ℕ → Bool = λ kind s. enters kind && is_of x s in
-      let (j, l, t) = count_some test ms n (omega (arith, d.division.whole)) (omega (arith, entered_once (contours_rise p) d.division x m, count_all test ms n d.division.whole)) in
+      let once = entered_once (contours_rise p) d.division x m in
+      let all = count_all (entering x) ms n d.division.whole in
+      let (j, l, t) = count_some (entering x) ms n (omega (arith, d.division.whole)) (omega (arith, once, all)) in
       let (e, o) = (says_entry x (kind_at ms j) (reference_at ms j)).tells t in
       (j, l, subst (Of x) (sym (entry_vertex (division_pairs d.division) j l e)) o)
 

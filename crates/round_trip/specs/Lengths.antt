@@ -6,12 +6,11 @@ use Rattle.rules.specs.HandedOver.{Plate, Contour, at, contours}
 use Rattle.rules.specs.Marks.{kind_at, reference_at, vertex_in, cuts_of}
 use Rattle.statement.specs.PathStatement.{Divides}
 use Rattle.rules.specs.Contours.{IsContour}
-use Rattle.contour_recovery.specs.ContourRecovery.{is_cut, recovered_lengths}
+use Rattle.contour_recovery.specs.ContourRecovery.{is_segment_cut, recovered_lengths}
 use Rattle.rules.specs.declared.Totals.{Totals}
 use Rattle.plate_laws.specs.Contours.{contour_one}
-use Rattle.division_laws.specs.MarkCounts.{count_none, count_all}
+use Rattle.division_laws.specs.MarkCounts.{count_none, count_all, cutting}
 use Rattle.division.specs.Kinds.{says_cut, cut_pair}
-use Rattle.division.specs.Tallies.{cutting}
 use Rattle.recovery_laws.specs.Runs.{Joins, runs_are}
 
 module _ {p : Plate} {c : Totals} {path : List Float} {ms : List ℕ} (d : Divides p c path ms) where
@@ -32,10 +31,10 @@ module _ {p : Plate} {c : Totals} {path : List Float} {ms : List ℕ} (d : Divid
           let same = contour_one p x y (x.first + x.last) m i (omega arith, omega arith) (omega (arith, a, s), omega (arith, b, s)) in
           omega (arith, s, b, ap (λ (q : Contour). q.first) same, ap (λ (q : Contour). q.last) same)
 
-  joins : (x : Contour) → IsContour p x → Joins (is_cut ms) x
-  unfolding is_cut
+  joins : (x : Contour) → IsContour p x → Joins (is_segment_cut ms) x
+  unfolding is_segment_cut
   joins x m = record { inside = λ i l. rw (d.division.once x m i l) refl; end = rw (no_cut x m) refl }
 
   pub lengths_are : recovered_lengths ms (sum p.lengths) ≡ map (λ x. suc x.last) (contours p)
   unfolding recovered_lengths
-  lengths_are = runs_are (is_cut ms) p joins
+  lengths_are = runs_are (is_segment_cut ms) p joins

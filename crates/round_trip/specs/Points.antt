@@ -11,8 +11,8 @@ use Rattle.contour_recovery.specs.ContourRecovery.{landed, vertex_count, landing
 use Rattle.rules.specs.declared.Totals.{Totals}
 use Rattle.plate_laws.specs.Lists.{All, all_map, all_up_from}
 use Rattle.plate_laws.specs.FiniteDistances.{OnPlate}
-use Rattle.plate_laws.specs.Accepted.{Accepted, point_on}
-use Rattle.recovery_laws.specs.Landed.{lands_there, landed_at, count_above, count_landed, place_lands}
+use Rattle.plate_laws.specs.AcceptedInput.{Accepted, point_on}
+use Rattle.recovery_laws.specs.LandedVertices.{lands_there, landed_at, count_above, count_landed, place_lands}
 use Rattle.round_trip.specs.LandingCounts.{landed_counts}
 use Rattle.round_trip.specs.Landings.{vertex_below, landed_once}
 

@@ -9,14 +9,14 @@
 -- That each vertex is landed on once is in Landings, over LandingCounts; the rules of marks in Consistent; the points in Points and the lengths in Lengths. Assumes
 -- nothing.
 use Rattle.std.specs.Prelude.{◌≡◌, refl, true, List, [], map, ℕ, suc, ◌*◌, ◌/◌, ◌≤◌, ◌<◌, length, Float}
-use Rattle.std.proofs.Common.{sym, ap, ◌∙◌, arith, le-ltb, eq-eqb}
+use Rattle.std.proofs.Common.{sym, ◌∙◌, arith, le-ltb, eq-eqb}
 use Rattle.std.proofs.Math.Decide.{dec_le}
 use Rattle.std.proofs.lemmas.List.{length-map}
 use Rattle.rules.specs.Tools.{pick, sum, first_failing}
-use Rattle.rules.specs.HandedOver.{retrace_room, Plate, Contour, plate_limit, first_off, contours, refused_by, out_of_range, off_the_plate, work_short, no_room, written}
+use Rattle.rules.specs.HandedOver.{Plate, Contour, plate_limit, first_off, contours, refused_by, out_of_range, off_the_plate, work_short, no_room, written}
 use Rattle.rules.specs.Retrace.{retrace}
 use Rattle.rules.specs.Marks.{coordinates, marks, vertices, vertices_after}
-use Rattle.rules.specs.Calls.{totals, path_totals, retrace_call}
+use Rattle.rules.specs.Calls.{totals, path_totals}
 use Rattle.statement.specs.PathStatement.{Divides}
 use Rattle.rules.specs.Contours.{contour_count}
 use Rattle.statement.specs.PathCheck.{miscounted_path}
@@ -25,11 +25,10 @@ use Rattle.contour_recovery.specs.ContourRecovery.{landed, consistent, vertex_co
 use Rattle.rules.specs.declared.Totals.{Totals}
 use Rattle.plate_laws.specs.Lists.{All, empty}
 use Rattle.plate_laws.specs.FiniteDistances.{OnPlate}
-use Rattle.plate_laws.specs.Accepted.{Accepted, first_on, input_gives, accepted_measurable}
+use Rattle.plate_laws.specs.AcceptedInput.{Accepted, first_on, input_gives, accepted_measurable}
 use Rattle.plate_laws.specs.Start.{AllTakePart, layered_part}
 use Rattle.plate_laws.specs.Contours.{sum_segments}
-use Rattle.path.specs.Theorem.{retrace_divides, retrace_gives, slice_after}
-use Rattle.plate_laws.specs.Slices.{coordinates_length, vertices_length, marks_length}
+use Rattle.path.specs.Theorem.{retrace_divides, retrace_gives, retrace_leaves}
 use Rattle.path.specs.Blank.{retrace_empty}
 use Rattle.division_laws.specs.Rules.{none_failing}
 use Rattle.round_trip.specs.Consistent.{divides_consistent}
@@ -128,14 +127,8 @@ round_trip_by_rules p accepted =
     retrace_gives_back p sound (layered_part p layered)
 
 pub round_trip : RoundTrip
-unfolding RoundTrip retrace_call totals path_totals
+unfolding RoundTrip
 round_trip p path ms w d c e =
     let (accepted, part, counted) = retrace_gives p path ms w d c e in
-    let r = retrace p in
-    let a = (retrace_call p path ms w d).answer in
-    let room = retrace_room (length path) (length ms) in
-    let n : c.points ≡ length r = ap (λ (x : Totals). x.points) counted in
-    let xs = coordinates p.points (vertices r) in
-    let x = slice_after a c room (2 * c.points) xs path e (omega (arith, coordinates_length p.points (vertices r), vertices_length r)) in
-    let y = slice_after a c room (2 * c.points) (marks r) ms e (omega (arith, marks_length r)) in
-    rw (x.1, y.1, n) (retrace_gives_back p accepted part)
+    let l = retrace_leaves p path ms w d c e in
+    rw (l.path_front, l.marks_front, l.points) (retrace_gives_back p accepted part)

@@ -14,7 +14,6 @@ pub mod SquareSum
 pub mod SquareRoot
 pub mod TruncatedCast
 pub mod CeilingCast
-pub mod Finite
 pub mod Range
 pub mod Remainder
 pub mod Conversions

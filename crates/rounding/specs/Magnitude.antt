@@ -1,15 +1,13 @@
 -- A finite f64 as a significand times a power of two: read off its bit pattern, and normalized. Assumes nothing.
-use Rattle.std.specs.Prelude.{◌≡◌, refl, ◌⊎◌, ℕ, zero, suc, ◌+◌, ◌-◌, ◌*◌, ◌/◌, ◌%◌, ◌^◌, ◌≤◌, ◌<◌, Bool, true, false, not, cond, T, leb, ltb, eqb, ℤ, Float}
-use Rattle.std.proofs.Common.{sym, ap, ◌∙◌, subst, inl, inr, le_trans, le_of_eq, lt_of_lt_of_le, lt_of_le_of_lt, zero-mul, mul_comm, mul_assoc, mul-le-mul_right, mod-eq_of_lt, arith, true≢false, leb→le, lt→ltb, pow-add, pow_pos, pow_mono, shl_lt}
-use Rattle.std.proofs.Math.Dec.{nleb→lt}
-use Rattle.std.proofs.Math.Arith.{le→nltb}
+use Rattle.std.specs.Prelude.{◌≡◌, refl, ◌⊎◌, ℕ, zero, suc, ◌+◌, ◌-◌, ◌*◌, ◌/◌, ◌%◌, ◌^◌, ◌≤◌, ◌<◌, Bool, true, false, not, cond, T, leb, eqb, ℤ, Float}
+use Rattle.std.proofs.Common.{sym, ap, ◌∙◌, subst, inl, inr, le_trans, le_of_eq, lt_of_lt_of_le, lt_of_le_of_lt, zero-mul, mul_comm, mul_assoc, mul-le-mul_right, mod-eq_of_lt, arith, pow-add, pow_pos, pow_mono, shl_lt}
 use Rattle.std.specs.Int.Count.{count_leading_zeros}
 use Rattle.std.proofs.lemmas.Nat.{leading_top}
 use Rattle.std.specs.Float.{nan, inf, fin, binary64}
 use Rattle.std.specs.Float.Ieee.{up, down, odd, of_fields, of_bits, to_bits, fits, is_nan}
 use Rattle.std.specs.Float.Ieee.Digits.{Equals, odd_val}
 use Rattle.std.specs.Float.Ieee.Scale.{finite}
-use Rattle.std.specs.Float.Ieee.Bits.{of_bits-to_bits, is_true, is_false}
+use Rattle.std.specs.Float.Ieee.Bits.{of_bits-to_bits}
 use Rattle.rounding.specs.StickyBit.{factor_zero}
 use Rattle.rounding.specs.Significand.{pow_lt_back}
 
@@ -42,16 +40,6 @@ unfolding is_nan
 finite_not_nan nan h = h
 finite_not_nan (inf s) h = tt
 finite_not_nan (fin s m e) h = tt
-
-pub non_negative_finite : (x : Float) → T (non_negative x) → T (finite x)
-non_negative_finite nan h = h
-non_negative_finite (inf s) h = h
-non_negative_finite (fin s m e) h = tt
-
-pub not_finite_not_non_negative : (x : Float) → finite x ≡ false → non_negative x ≡ false
-not_finite_not_non_negative nan h = refl
-not_finite_not_non_negative (inf s) h = refl
-not_finite_not_non_negative (fin s m e) h = absurd (true≢false h)
 
 -- ---- the fields of a pattern
 
@@ -86,11 +74,6 @@ says s (suc x) t h = go (eqb (suc x) 2047) (eqb t 0) (back x) h
     go true false n h = absurd h
     go false z n h = (subst (λ (y : ℕ). Equals (odd 53 s (4503599627370496 + t) x 1074) ((4503599627370496 + t) * 2 ^ y) (2 ^ 1074)) (sym (minus_one x)) (odd_val 53 s (4503599627370496 + t) x 1074), n)
 
-odd_sign_of : (d : ℕ) (s : Bool) (q k l : ℕ) → non_negative (odd d s q k l) ≡ not s
-unfolding odd
-odd_sign_of d s zero k l = refl
-odd_sign_of d s (suc q) k l = refl
-
 read : (x : Float) → T (fits binary64 x) → T (finite x) → HasFields x (body x / 4503599627370496) (body x % 4503599627370496)
 unfolding of_bits
 read x held h =
@@ -100,31 +83,6 @@ read x held h =
     ap (λ (t : ℕ). of_fields binary64 (leb 9223372036854775808 b) (body x / 4503599627370496) t) (sym m) ∙ of_bits-to_bits binary64 x held in
     subst (λ (v : Float). HasFields v (body x / 4503599627370496) (body x % 4503599627370496)) is
     (says (leb 9223372036854775808 b) (body x / 4503599627370496) (body x % 4503599627370496) (subst (λ (v : Float). T (finite v)) (sym is) h))
-
--- the first bit is the sign
-sign_of : (s : Bool) (e t : ℕ) → T (finite (of_fields binary64 s e t)) → non_negative (of_fields binary64 s e t) ≡ not s
-unfolding of_fields
-sign_of s zero t h = odd_sign_of 53 s t 0 1074
-sign_of s (suc x) t h = go (eqb (suc x) 2047) (eqb t 0) h
-  where
-    go : (b z : Bool) → T (finite (cond b (cond z (inf s) nan) (odd 53 s (4503599627370496 + t) x 1074))) → non_negative (cond b (cond z (inf s) nan) (odd 53 s (4503599627370496 + t) x 1074)) ≡ not s
-    go true true h = absurd h
-    go true false h = absurd h
-    go false z h = odd_sign_of 53 s (4503599627370496 + t) x 1074
-
-pub sign_bit : (x : Float) → T (fits binary64 x) → T (finite x) → non_negative x ≡ ltb (to_bits binary64 x) 9223372036854775808
-unfolding of_bits
-sign_bit x held h =
-    let b = to_bits binary64 x in
-    let is : of_fields binary64 (leb 9223372036854775808 b) (body x / 4503599627370496) (b % 4503599627370496) ≡ x = of_bits-to_bits binary64 x held in
-    ap non_negative (sym is) ∙ sign_of (leb 9223372036854775808 b) (body x / 4503599627370496) (b % 4503599627370496) (subst (λ (v : Float). T (finite v)) (sym is) h) ∙ flip 9223372036854775808 b
-  where
-    flip : (a b : ℕ) → not (leb a b) ≡ ltb b a
-    flip a b = go (leb a b) (leb→le a b) (nleb→lt a b)
-      where
-        go : (x : Bool) → (T x → a ≤ b) → (T (not x) → b < a) → not x ≡ ltb b a
-        go true f g = sym (is_false (ltb b a) (le→nltb b a (f tt)))
-        go false f g = sym (is_true (ltb b a) (lt→ltb b a (g tt)))
 
 -- ---- `magnitude`
 

@@ -64,13 +64,6 @@ digits_of q L H =
     let p : j ≡ digits q - 1 = omega arith in
     record { many = omega arith; zeros = omega arith; below = subst (λ (x : ℕ). q < 2 ^ x) s t.3; least = subst (λ (x : ℕ). 2 ^ x ≤ q) p t.2 }
 
-pub ulp_few : (z e k : ℕ) → UlpExponent z e k → z ≤ 64 → e ≤ 5000 → k ≤ 3809
-ulp_few z e k p h g = go p.least
-  where
-    go : (k ≡ 0) ⊎ (k + 1255 ≡ z + e) → k ≤ 3809
-    go (inl a) = omega arith
-    go (inr a) = omega arith
-
 pub bits_most : (k m : ℕ) → k ≤ 2045 → m ≤ 2 ^ 53 → k * 4503599627370496 + m ≤ 9218868437227405312
 bits_most k m h g = omega arith
 

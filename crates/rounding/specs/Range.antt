@@ -10,7 +10,6 @@ use Rattle.std.specs.Float.Ieee.Digits.{size-le}
 use Rattle.std.specs.Float.Ieee.Fits.{down_pos, round_is, and_l}
 use Rattle.std.specs.Float.Ieee.Exact.{HasValue, units_val}
 use Rattle.std.specs.Float.Ieee.Nearest.{closest}
-use Rattle.std.specs.Float.Ieee.Scale.{finite}
 use Rattle.rules.specs.Distances.{mul_add}
 use Rattle.rounding.specs.Significand.{drops, significand_most}
 use Rattle.rounding.specs.Magnitude.{non_negative}
@@ -21,11 +20,6 @@ abbrev pub Upto : ℕ → Float → Type 0
 Upto B nan = ⊥
 Upto B (inf s) = ⊥
 Upto B (fin s m e) = m * up e ≤ 2 ^ B * down e
-
-pub upto_finite : (B : ℕ) (x : Float) → Upto B x → T (finite x)
-upto_finite B nan h = absurd h
-upto_finite B (inf s) h = absurd h
-upto_finite B (fin s m e) h = tt
 
 -- ---- a rounded fraction
 

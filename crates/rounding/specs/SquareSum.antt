@@ -1,6 +1,6 @@
 -- x * x + y, rounded once: the digits of the exact sum that rounding needs, by the sticky law, and the sums with a zero. Assumes nothing.
 use Rattle.std.specs.Prelude.{◌≡◌, refl, Bool, true, false, T, ℤ, Float}
-use Rattle.std.proofs.Common.{sym, ap, ap₂, ◌∙◌, le_trans, le_of_eq, lt_of_lt_of_le, zero-lt-suc, add_comm, add-zero, mul_comm, mul_assoc, mul-pos, mul-le-mul_right, mod-lt, div-add-mod', div-le_self, arith, lit≤, pow-add, pow_pos}
+use Rattle.std.proofs.Common.{sym, ap, ap₂, ◌∙◌, le_trans, le_of_eq, lt_of_lt_of_le, zero-lt-suc, add_comm, mul_comm, mul_assoc, mul-pos, mul-le-mul_right, mod-lt, div-add-mod', div-le_self, arith, pow-add, pow_pos}
 use Prim.Native.Nat.{ℕ, suc, ◌+◌, ◌-◌, ◌*◌, ◌/◌, ◌%◌, ◌^◌, ◌≤◌, ◌<◌, compare}
 use Rattle.std.proofs.Math.Arith.{digits_div, digits_mod, digits_lt}
 use Rattle.std.specs.Float.{nan, inf, fin, binary64}
@@ -13,7 +13,7 @@ use Rattle.rounding.specs.Sticky.{sticky}
 use Rattle.rounding.specs.Fraction.{with_sticky, fraction_order, fraction_rounds}
 use Rattle.rounding.specs.Magnitude.{non_negative, IsMagnitude, Normalized, zero_magnitude, normalized_value}
 use Rattle.rounding.specs.Pack.{rounded_from}
-use Rattle.rounding.specs.Wide.{wide, hi_lt, hi_ge, square_lt, square_ge}
+use Rattle.rounding.specs.Wide.{wide, hi_lt, hi_ge}
 
 -- ---- a sum of two wide numbers, the second shifted by d to the right
 
@@ -60,9 +60,6 @@ module _ (ph pl qh ql d ch cl cs : ℕ) (P' : 2 ^ 53 ≤ ph) (P : ph < 2 ^ 62) (
       few : (n qh ql : ℕ) → n ≤ wide qh ql → qh < 2 ^ 62 → ql < 2 ^ 64 → n < 2 ^ 62 * 18446744073709551616
       few n qh ql h a b = omega arith
 
-  pub sum_fits : ph + ch < 2 ^ 63
-  sum_fits = let q = hi_lt ch cl (wide ch cl) (2 ^ 62) refl shifted_lt in omega arith
-
   module _ (wh wl : ℕ) (E : wide wh wl ≡ wide ph pl + wide ch cl) (L : wl < 2 ^ 64) where
     pub sum_range : (2 ^ 53 ≤ wh) × (wh < 2 ^ 63) × (cs ≤ 1)
     sum_range = (
@@ -86,35 +83,6 @@ module _ (ph pl qh ql d ch cl cs : ℕ) (P' : 2 ^ 53 ≤ ph) (P : ph < 2 ^ 62) (
         ap (λ (u : ℕ). rounded_from wh (sticky_bit (cs + sticky_bit wl)) (u + 64)) (sym g)
         ∙ sym (aligned (wide ph pl) (wide qh ql) d (e - d) wh wl cs (E ∙ ap (λ (u : ℕ). wide ph pl + u) C) S L sum_range.0)
         ∙ ap (λ (u : ℕ). round binary64 false (wide ph pl * 2 ^ u + wide qh ql * 2 ^ (e - d)) (2 ^ 2276)) g
-
--- ---- s * s * 2 ^ i + b * 2 ^ 64 * 2 ^ j, of significands of 61 digits; sh and sl are the halves of the square
-
-module _ (s sh sl : ℕ) (Q : wide sh sl ≡ s * s) where
-  pub square_range : 2 ^ 60 ≤ s → s < 2 ^ 61 → sl < 2 ^ 64 → (2 ^ 53 ≤ sh) × (sh < 2 ^ 62)
-  square_range A B L = (
-    le_trans (lit≤ {m = 2 ^ 53} {n = 2 ^ 56} tt) (hi_ge sh sl (s * s) (2 ^ 56) Q L (square_ge s A)),
-    lt_of_lt_of_le (hi_lt sh sl (s * s) (2 ^ 58) Q (square_lt s B)) (lit≤ {m = 2 ^ 58} {n = 2 ^ 62} tt),
-  )
-
-  pub square_higher : (b i j : ℕ) (v : Float) → j ≤ i → v ≡ round binary64 false (wide sh sl * 2 ^ i + wide b 0 * 2 ^ (i - (i - j))) (2 ^ 2276)
-      → v ≡ round binary64 false (s * s * 2 ^ i + b * 18446744073709551616 * 2 ^ j) (2 ^ 2276)
-  square_higher b i j v h e =
-      e
-      ∙ ap₂ (λ (x y : ℕ). round binary64 false (wide sh sl * 2 ^ i + x * 2 ^ y) (2 ^ 2276)) (add-zero (b * 18446744073709551616)) (back i j h)
-      ∙ ap (λ (x : ℕ). round binary64 false (x * 2 ^ i + b * 18446744073709551616 * 2 ^ j) (2 ^ 2276)) Q
-    where
-      back : (i j : ℕ) → j ≤ i → i - (i - j) ≡ j
-      back i j h = omega arith
-
-  pub square_lower : (b i j : ℕ) (v : Float) → i < j → v ≡ round binary64 false (wide b 0 * 2 ^ j + wide sh sl * 2 ^ (j - (j - i))) (2 ^ 2276)
-      → v ≡ round binary64 false (s * s * 2 ^ i + b * 18446744073709551616 * 2 ^ j) (2 ^ 2276)
-  square_lower b i j v h e =
-      e
-      ∙ ap₂ (λ (x y : ℕ). round binary64 false (x * 2 ^ j + wide sh sl * 2 ^ y) (2 ^ 2276)) (add-zero (b * 18446744073709551616)) (back i j h)
-      ∙ ap (λ (x : ℕ). round binary64 false x (2 ^ 2276)) (add_comm (b * 18446744073709551616 * 2 ^ j) (wide sh sl * 2 ^ i) ∙ ap (λ (x : ℕ). x * 2 ^ i + b * 18446744073709551616 * 2 ^ j) Q)
-    where
-      back : (i j : ℕ) → i < j → j - (j - i) ≡ i
-      back i j h = omega arith
 
 -- ---- `mul_add` of a number with itself
 

@@ -1,12 +1,12 @@
 -- Numbers of 128 bits as two halves: a square, a shift to the right, and the halves of a sum. Assumes nothing.
 use Rattle.std.specs.Prelude.{◌≡◌, ℕ, suc, ◌+◌, ◌-◌, ◌*◌, ◌/◌, ◌%◌, ◌^◌, ◌≤◌, ◌<◌}
 use Rattle.std.proofs.Math.Path.{sym, ap, subst}
-use Rattle.std.proofs.Common.{ap₂, ◌∙◌, le_trans, le_of_eq, lt_of_lt_of_le, lt_of_le_of_lt, mul_comm, mul-le-mul, mod-eq_of_lt, mod-lt, div-add-mod', div-lt_iff_lt-mul, div-le_self, le-add_right, le_of_suc-le-suc, lt_of_mul-lt-mul_right, lit<, lit≤, pow-add, pow_mono}
+use Rattle.std.proofs.Common.{ap₂, ◌∙◌, le_trans, le_of_eq, lt_of_lt_of_le, lt_of_le_of_lt, mul_comm, mod-eq_of_lt, mod-lt, div-add-mod', div-lt_iff_lt-mul, div-le_self, le-add_right, le_of_suc-le-suc, lt_of_mul-lt-mul_right, pow-add, pow_mono}
 use Rattle.std.proofs.Math.Nat.{div-eq_of_lt, div-div-eq-div-mul}
 use native.Mathlib.Omega.{arith}
 use Rattle.std.proofs.Math.Arith.{digits_div, digits_mod, digits_lt}
 use Rattle.std.proofs.Math.Pow.{pow_pos}
-use Rattle.rounding.specs.StickyBit.{sticky_bit, bit_zero, bit_two}
+use Rattle.rounding.specs.StickyBit.{sticky_bit, bit_two}
 use Rattle.rounding.specs.Shift.{shifted_out}
 
 abbrev pub wide : ℕ → ℕ → ℕ
@@ -26,41 +26,10 @@ hi_ge h l n k e b c =
 
 -- ---- `square`
 
-pub square_bounds : (s : ℕ) → s < 2 ^ 61
-    → (s / 4294967296 * (s / 4294967296) ≤ 536870911 * 536870911) × (s / 4294967296 * (s % 4294967296) ≤ 536870911 * 4294967295) × (s % 4294967296 * (s % 4294967296) ≤ 4294967295 * 4294967295)
-square_bounds s h =
-    let a : s / 4294967296 ≤ 536870911 = omega arith in
-    let b : s % 4294967296 ≤ 4294967295 = omega arith in
-    (mul-le-mul a a, mul-le-mul a b, mul-le-mul b b)
-
-pub square_fits : (x m l : ℕ) → x ≤ 536870911 * 536870911 → m < 2 ^ 64 → l < 2 ^ 64 → x + m / 4294967296 + (l / 4294967296 + m % 4294967296) / 4294967296 < 2 ^ 64
-square_fits x m l h M L = add3 x (m / 4294967296) ((l / 4294967296 + m % 4294967296) / 4294967296) h (upper m M) (carried (l / 4294967296) (m % 4294967296) (upper l L) (lower m))
-  where
-    upper : (m : ℕ) → m < 2 ^ 64 → m / 4294967296 < 4294967296
-    upper m h = omega arith
-
-    lower : (m : ℕ) → m % 4294967296 < 4294967296
-    lower m = omega arith
-
-    carried : (a b : ℕ) → a < 4294967296 → b < 4294967296 → (a + b) / 4294967296 < 4294967296
-    carried a b h g = omega arith
-
-    add3 : (x y z : ℕ) → x ≤ 536870911 * 536870911 → y < 4294967296 → z < 4294967296 → x + y + z < 2 ^ 64
-    add3 x y z a b c = omega arith
-
 pub square_is : (a b : ℕ)
     → wide (a * a + 2 * a * b / 4294967296 + (b * b / 4294967296 + 2 * a * b % 4294967296) / 4294967296) ((b * b / 4294967296 + 2 * a * b % 4294967296) % 4294967296 * 4294967296 + b * b % 4294967296)
     ≡ (a * 4294967296 + b) * (a * 4294967296 + b)
 square_is a b = omega arith
-
-pub square_lt : (s : ℕ) → s < 2 ^ 61 → s * s < 2 ^ 58 * 18446744073709551616
-square_lt s h = lt_of_le_of_lt (mul-le-mul (below s h) (below s h)) (lit< {m = 2305843009213693951 * 2305843009213693951} {n = 2 ^ 58 * 18446744073709551616} tt)
-  where
-    below : (s : ℕ) → s < 2 ^ 61 → s ≤ 2305843009213693951
-    below s h = omega arith
-
-pub square_ge : (s : ℕ) → 2 ^ 60 ≤ s → 2 ^ 56 * 18446744073709551616 ≤ s * s
-square_ge s h = le_trans (lit≤ {m = 2 ^ 56 * 18446744073709551616} {n = 2 ^ 60 * 2 ^ 60} tt) (mul-le-mul h h)
 
 -- ---- a shift by d
 
@@ -127,9 +96,6 @@ module _ (hi lo d : ℕ) (H : hi < 2 ^ 64) (L : lo < 2 ^ 64) (D : d ≤ 64) wher
         value = ap (λ (x : ℕ). wide (hi / P) (x + lo / P)) moved ∙ sym (ap (λ (x : ℕ). x / P) whole ∙ digits_div (hi / P * 2 ^ 64 + (hi % P * Q + lo / P)) (mod-lt lo P_pos));
         sticky = e ∙ ap sticky_bit (shifted_out lo d L ∙ sym (ap (λ (x : ℕ). x % P) whole ∙ digits_mod (hi / P * 2 ^ 64 + (hi % P * Q + lo / P)) (mod-lt lo P_pos)));
       }
-
-pub unshifted : (n d : ℕ) → d ≡ 0 → (n ≡ n / 2 ^ d) × (0 ≡ sticky_bit (n % 2 ^ d))
-unshifted n d e = subst (λ (x : ℕ). (n ≡ n / 2 ^ x) × (0 ≡ sticky_bit (n % 2 ^ x))) (sym e) (omega arith, sym (bit_zero (n % 1) (omega arith)))
 
 -- ---- by 64 and more
 

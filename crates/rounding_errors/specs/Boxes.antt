@@ -9,7 +9,7 @@ use Rattle.rules.specs.Box.{widen, box_from, box}
 use Rattle.rules.specs.declared.BoundingBox.{BoundingBox}
 use Rattle.plate_laws.specs.Lists.{All}
 use Rattle.plate_laws.specs.FiniteDistances.{OnPlate}
-use Rattle.plate_laws.specs.Accepted.{Accepted}
+use Rattle.plate_laws.specs.AcceptedInput.{Accepted}
 use Rattle.rounding_errors.specs.Order.{le_under, under_le, under_refl, under_trans, lesser_first, greater_first}
 use Rattle.rounding_errors.specs.Coords.{on_plate_finite}
 

@@ -17,7 +17,7 @@ use Rattle.rounding.specs.Magnitude.{non_negative}
 use Rattle.rounding.specs.Range.{Upto, between, sub_upto, square_upto, square_plus_upto}
 use Rattle.plate_laws.specs.FloatOrder.{Plus}
 use Rattle.plate_laws.specs.FiniteDistances.{OnPlate, distance_plus}
-use Rattle.plate_laws.specs.Accepted.{ParkedOnPlate}
+use Rattle.plate_laws.specs.AcceptedInput.{ParkedOnPlate}
 
 -- ---- half of a u32
 

@@ -88,49 +88,44 @@ none_near f w d e h = let z : w ≤ 0 = le_of_mul-le-mul_right (go (2 ^ prec f) 
 swapped : (f : Format) (z : Float) (p n : ℕ) → p ≡ n → At f z p n → At f z n p
 swapped f z p n e h = (h.0, omega (arith, h.1, ap (λ (i : ℕ). i * den z) e))
 
--- not negative
-sum_up : (f : Format) (z : Float) (p n d : ℕ) → Sum f z p n → n + d ≡ p → d ≤ 2 ^ 100 * 2 ^ low f → (w : ℕ) × At f z w 0 × Near f w d
-sum_up f z p n d s e h = go s.sign s.is s.exact
-  where
-    L : ℕ
-    L = 2 ^ low f
+module _ (f : Format) (z : Float) (p n d : ℕ) (s : Sum f z p n) (h : d ≤ 2 ^ 100 * 2 ^ low f) where
+  abbrev c : ℕ
+  c = s.unit
 
-    c : ℕ
-    c = s.unit
+  abbrev Balanced : Bool → Type 0
+  Balanced r = plus_part r s.value * 2 ^ low f + n * c ≡ minus_part r s.value * 2 ^ low f + p * c
 
-    go : (r : Bool) → z ≡ round f r s.value c → plus_part r s.value * L + n * c ≡ minus_part r s.value * L + p * c →
-        (w : ℕ) × At f z w 0 × Near f w d
-    go false i x = settled f z false s.value c d s.some i (omega (arith, x, ap (λ (i : ℕ). i * c) e)) h
-    go true i x =
-        let o : s.value * L + d * c ≡ 0 = omega (arith, x, ap (λ (i : ℕ). i * c) e) in
-        let b = settled f z true s.value c d s.some i (omega arith) h in
-        let w : 0 ≡ b.0 = sym {a = b.0} (none_near f b.0 d (none_left d s.value L c s.some o) b.2) in
-        (b.0, swapped f z 0 b.0 w b.1, b.2)
+  -- nothing is left, with this sign
+  none_settled : (r : Bool) → z ≡ round f r s.value c → s.value * 2 ^ low f + d * c ≡ 0 → (w : ℕ) × (w ≡ 0) × At f z (plus_part r w) (minus_part r w) × Near f w d
+  none_settled r i o =
+      let b = settled f z r s.value c d s.some i (omega arith) h in
+      (b.0, none_near f b.0 d (none_left d s.value (2 ^ low f) c s.some o) b.2, b.1, b.2)
 
--- not positive
-sum_down : (f : Format) (z : Float) (p n d : ℕ) → Sum f z p n → p + d ≡ n → d ≤ 2 ^ 100 * 2 ^ low f → (w : ℕ) × At f z 0 w × Near f w d
-sum_down f z p n d s e h = go s.sign s.is s.exact
-  where
-    L : ℕ
-    L = 2 ^ low f
+  -- not negative
+  sum_up : n + d ≡ p → (w : ℕ) × At f z w 0 × Near f w d
+  sum_up e = go s.sign s.is s.exact
+    where
+      go : (r : Bool) → z ≡ round f r s.value c → Balanced r → (w : ℕ) × At f z w 0 × Near f w d
+      go false i x = settled f z false s.value c d s.some i (omega (arith, x, ap (λ (i : ℕ). i * c) e)) h
+      go true i x =
+          let (w, o, a, b) = none_settled true i (omega (arith, x, ap (λ (i : ℕ). i * c) e)) in
+          (w, swapped f z 0 w (sym {a = w} o) a, b)
 
-    c : ℕ
-    c = s.unit
-
-    go : (r : Bool) → z ≡ round f r s.value c → plus_part r s.value * L + n * c ≡ minus_part r s.value * L + p * c →
-        (w : ℕ) × At f z 0 w × Near f w d
-    go true i x = settled f z true s.value c d s.some i (omega (arith, x, ap (λ (i : ℕ). i * c) e)) h
-    go false i x =
-        let o : s.value * L + d * c ≡ 0 = omega (arith, x, ap (λ (i : ℕ). i * c) e) in
-        let b = settled f z false s.value c d s.some i (omega arith) h in
-        let w = none_near f b.0 d (none_left d s.value L c s.some o) b.2 in
-        (b.0, swapped f z b.0 0 w b.1, b.2)
+  -- not positive
+  sum_down : p + d ≡ n → (w : ℕ) × At f z 0 w × Near f w d
+  sum_down e = go s.sign s.is s.exact
+    where
+      go : (r : Bool) → z ≡ round f r s.value c → Balanced r → (w : ℕ) × At f z 0 w × Near f w d
+      go true i x = settled f z true s.value c d s.some i (omega (arith, x, ap (λ (i : ℕ). i * c) e)) h
+      go false i x =
+          let (w, o, a, b) = none_settled false i (omega (arith, x, ap (λ (i : ℕ). i * c) e)) in
+          (w, swapped f z w 0 o a, b)
 
 -- ---- the operations
 
 pub add_up : (f : Format) (x y : Float) (p n q k d : ℕ) → At f x p n → At f y q k → n + k + d ≡ p + q → d ≤ 2 ^ 100 * 2 ^ low f →
     (w : ℕ) × At f (add f x y) w 0 × Near f w d
-add_up f x y p n q k d hx hy e h = sum_up f (add f x y) (p + q) (n + k) d (add_is f x y p n q k hx hy) e h
+add_up f x y p n q k d hx hy e h = sum_up f (add f x y) (p + q) (n + k) d (add_is f x y p n q k hx hy) h e
 
 pub sub_up : (f : Format) (x y : Float) (p n q k d : ℕ) → At f x p n → At f y q k → n + q + d ≡ p + k → d ≤ 2 ^ 100 * 2 ^ low f →
     (w : ℕ) × At f (sub f x y) w 0 × Near f w d
@@ -140,4 +135,4 @@ sub_up f x y p n q k d hx hy e h = add_up f x (neg y) p n k q d hx (neg_at f y q
 pub sub_down : (f : Format) (x y : Float) (p n q k d : ℕ) → At f x p n → At f y q k → p + k + d ≡ n + q → d ≤ 2 ^ 100 * 2 ^ low f →
     (w : ℕ) × At f (sub f x y) 0 w × Near f w d
 unfolding sub
-sub_down f x y p n q k d hx hy e h = sum_down f (add f x (neg y)) (p + k) (n + q) d (add_is f x (neg y) p n k q hx (neg_at f y q k hy)) e h
+sub_down f x y p n q k d hx hy e h = sum_down f (add f x (neg y)) (p + k) (n + q) d (add_is f x (neg y) p n k q hx (neg_at f y q k hy)) h e

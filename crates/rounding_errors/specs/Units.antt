@@ -76,7 +76,7 @@ positive_at f (fin false m e) p h P =
 
 -- ---- a finite float that the format holds is a whole number of units
 
-down_le : (f : Format) (s : Bool) (m : ℕ) (e : ℤ) → T (fits f (fin s m e)) → down e ≤ 2 ^ low f
+pub down_le : (f : Format) (s : Bool) (m : ℕ) (e : ℤ) → T (fits f (fin s m e)) → down e ≤ 2 ^ low f
 unfolding fits
 down_le f s zero e h =
     let w : up e * down e ≡ 1 = eqb→eq (up e * down e) 1 h in
@@ -86,7 +86,7 @@ down_le f s (suc m) e h =
     let b = leb (down e) (2 ^ low f) in
     leb→le (down e) (2 ^ low f) (and_r a b (and_l (a && b) (ltb (suc m * up e) (2 ^ suc (emax f) * down e)) h))
 
-unit_of : (f : Format) (e : ℤ) → down e ≤ 2 ^ low f → (q : ℕ) × (2 ^ low f ≡ q * down e)
+pub unit_of : (f : Format) (e : ℤ) → down e ≤ 2 ^ low f → (q : ℕ) × (2 ^ low f ≡ q * down e)
 unit_of f (pos k) h = (2 ^ low f, sym (mul-one (2 ^ low f)))
 unit_of f (negsuc k) h = go (dec_lt (low f) (suc k))
   where

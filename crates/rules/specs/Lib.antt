@@ -4,6 +4,7 @@ pub mod Box
 pub mod HandedOver
 pub mod Bits
 pub mod Contours
+pub mod ContourVertices
 pub mod Marks
 pub mod Distances
 pub mod Start

@@ -308,6 +308,9 @@ table =
     ∷ distance_of zero_point I ⇒ distances (gives (binary (2 ^ 52 + 2 ^ 26 + 1) 52, binary (2 ^ 27 + 1) 27))
     ∷ two_roundings zero_point I ⇒ squared (binary (2 ^ 26 + 1) 26)
     -- ---- what is handed over
+    -- 4,096 contours and 65,536 points are none too many
+    ∷ start_on (handed [] (replicate 4096 0)) ⇒ starts (refuses 7 0)
+    ∷ start_on (handed [] (65536 ∷ [])) ⇒ starts (refuses 3 0)
     -- refusals, each before the next: 1 before 2, 2 before 3, 3 before 4
     ∷ start_on (handed [] (65537 ∷ replicate 4096 0)) ⇒ starts (refuses 1 0)
     ∷ start_on (handed [] (65537 ∷ [])) ⇒ starts (refuses 2 0)
@@ -514,6 +517,11 @@ table =
     (whole 0 ∷ whole 0 ∷ binary 1 1074 ∷ whole 0 ∷ whole 0 ∷ whole 0 ∷ [])
     ((0, 0) ∷ (3, 1) ∷ (3, 2) ∷ [])
     (joined 3 0 0 2 (0, 0, 0))
+    -- into the middle of a contour
+    ∷ retraces (drawn whole ((4, 0) ∷ [] ∣ (0, 0) ∷ (4, 0) ∷ (8, 0) ∷ [] ∣ []) 8 0 Inside)
+    (along whole ((4, 0) ∷ (4, 0) ∷ (8, 0) ∷ (4, 0) ∷ (0, 0) ∷ []))
+    ((0, 0) ∷ (4, 2) ∷ (1, 2) ∷ (2, 1) ∷ (1, 1) ∷ [])
+    (touching 5 2 1 0 1 (8192, 4096, 0))
     -- the point left is where the walk back ends, not where the path ended
     ∷ retraces (drawn whole ((0, 0) ∷ (4, 0) ∷ [] ∣ (0, 0) ∷ [] ∣ []) 0 0 Inside)
     (along whole ((0, 0) ∷ (4, 0) ∷ (0, 0) ∷ (0, 0) ∷ []))
@@ -534,6 +542,10 @@ table =
     (joined 4 0 1 2 (0, 2048, 3072))
     -- three layers, which decide before the distance: lowest to highest, whatever their order in the slice
     ∷ order_in 3 (in_layers (15 ∷ 7 ∷ 0 ∷ []) three_points) ⇒ ordered (gives 3) (pairs ((2, 0) ∷ (1, 0) ∷ (0, 0) ∷ []))
+    ∷ retraces (in_layers (15 ∷ 7 ∷ 0 ∷ []) three_points)
+    (along whole ((0, 2) ∷ (1, 0) ∷ (0, 0) ∷ []))
+    ((0, 2) ∷ (3, 1) ∷ (3, 0) ∷ [])
+    (joined 3 0 0 2 (0, 0, 3313))
     -- the start is in the lowest layer, though an end of another is nearer
     ∷ start_on (in_layers (1 ∷ 0 ∷ []) (drawn whole ((0, 0) ∷ (1, 0) ∷ [] ∣ (5, 0) ∷ (3, 0) ∷ [] ∣ []) 0 0 Inside)) ⇒ starts (gives (1, reversed))
     -- the first of a later layer is the nearest to the last end, not the one that the strategy takes
@@ -550,6 +562,7 @@ table =
     ∷ start_on (in_layers (16 ∷ 0 ∷ []) three_points) ⇒ starts (refuses 13 3)
     ∷ start_on (in_layers (0 ∷ 0 ∷ 0 ∷ 0 ∷ []) three_points) ⇒ starts (refuses 13 3)
     ∷ order_in 3 (in_layers (15 ∷ 16 ∷ 17 ∷ []) three_points) ⇒ ordered (refuses 13 1) (unwritten 6)
+    ∷ retrace_in 3 (in_layers (0 ∷ 16 ∷ 0 ∷ []) three_points) ⇒ retraced (refuses 13 1) (unwritten_path 6) (unwritten 6)
     ∷ straight_in 2 (in_layers (0 ∷ 0 ∷ 0 ∷ 0 ∷ 0 ∷ 4294967295 ∷ []) skipping) ⇒ straightened (refuses 13 5) (unwritten_path 4)
     -- 3 before 13, and 13 before 4
     ∷ start_on (in_layers [] (handed (nan ∷ []) (1 ∷ []))) ⇒ starts (refuses 3 0)

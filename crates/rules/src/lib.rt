@@ -3,7 +3,7 @@
 
 ghost use Rattle.std.specs.Prelude.{◌≡◌, ◌+◌, ◌*◌, ◌<◌, ◌≤◌, ◌↔◌, length, IsSome, IfSome};
 ghost use Rattle.rules.specs.HandedOver.{at};
-ghost use Rattle.rules.specs.Marks.{kind_of, reference_of};
+ghost use Rattle.rules.specs.Marks.{touch_kind, kind_of, reference_of};
 
 // Home carries the parked point.
 #[derive(Clone, Copy)]
@@ -135,7 +135,7 @@ impl Mark {
 
     // The mark of a kind and a reference, where there is one.
     pub fn from_numbers(kind: u32, reference: u32) -> Option<Mark>
-        ensures known { IsSome result ↔ (kind ≤ 4) }
+        ensures known { IsSome result ↔ (kind ≤ touch_kind) }
         ensures numbers { IfSome result (λ m. (kind_of m ≡ kind) × (reference_of m ≡ reference)) }
     {
         match kind {
@@ -187,7 +187,8 @@ pub fn path_point(path: &[f64], place: PathPlace) -> Point
     point_in(path, place.0 as usize)
 }
 
-// A path's totals: how many points, cuts, back-steps, jumps and touches it has, and how long its cuts, its back-steps, and its jumps and touches are, in 1,024ths.
+// A path's totals: how many points, cuts, back-steps, jumps and touches it has, and how long its cuts, its back-steps, and its jumps and touches are, in
+// 1,024ths.
 #[derive(Clone, Copy, Default)]
 pub struct Totals {
     pub points: u32,

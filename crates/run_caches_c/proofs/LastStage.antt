@@ -4,13 +4,12 @@ use mathlib.Core.List.{List}
 use Prim.Native.Nat.{ℕ, ◌+◌, ◌<◌}
 use native.Mathlib.Omega.{arith}
 use lib.Ieee.{Float}
-use lib.ListN.{length, get_or}
+use lib.ListN.{get_or}
 use Rattle.rules.specs.HandedOver.{Plate, Contour, contours, contours_from, vertex_at}
 use Rattle.rules.specs.SamplesAndCache.{waiting, seed, update, cells_around}
 use Rattle.rules.specs.declared.Point.{Point}
 use Rattle.rules.specs.declared.SpatialGrid.{SpatialGrid}
 use Rattle.plate_laws.specs.Lists.{All, all_give}
-use Rattle.work_layout.specs.Laid.{Laid}
 use Rattle.work_layout.specs.Parts.{from}
 use Rattle.work_layout.specs.declared.Layout.{Layout}
 use Rattle.waiting.specs.Holds.{Holds, Changed}
@@ -26,9 +25,6 @@ use Rattle.run_caches_c.proofs.StageLaws.{told}
 
 module _ {xs : List Float} {g : SpatialGrid} {lay : Layout} {ds : List Float} {w : List ℕ} {count number : ℕ}
     (q : Querying xs g lay ds w xs count) (l : number < lay.contours) where
-  laid : Laid lay (length w)
-  laid = q.prepared.plated.laid
-
   -- c is the contour as the code has read it
   pub settled : (c : code.ContourRange) {ds' : List Float} {w' : List ℕ} → c.number ≡ number → c.first.0 ≡ from w lay.firsts number →
       c.last + 1 ≡ from w lay.waiting number →
@@ -39,7 +35,7 @@ module _ {xs : List Float} {g : SpatialGrid} {lay : Layout} {ds : List Float} {w
       let first : c.first.0 ≡ e.first = ef ∙ f in
       let last : c.last ≡ e.last = omega (arith, el, z) in
       let is : contour_of c ≡ e = λ i. record { number = (en ∙ sym a) i; first = first i; last = last i } in
-      rw (sym is) ((rw en at h) p same d (holds_left xs g lay ds w laid number l d apart held))
+      rw (sym is) ((rw en at h) p same d (holds_left xs g lay ds w q.prepared.plated.laid number l d apart held))
 
 -- ---- all contours but the one that was emitted
 

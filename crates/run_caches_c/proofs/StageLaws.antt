@@ -7,6 +7,7 @@ use native.Mathlib.Nat.{le_refl}
 use native.Mathlib.Omega.{arith}
 use lib.Ieee.{Float}
 use lib.ListN.{length, get_or}
+use Rattle.rules.specs.Limits.{most_cells}
 use Rattle.rules.specs.HandedOver.{Plate, Contour, plate, contours_from}
 use Rattle.rules.specs.Contours.{Among}
 use Rattle.rules.specs.SamplesAndCache.{Waiting}
@@ -45,7 +46,7 @@ module _ {xs : List Float} {ns : List ℕ} {g : SpatialGrid} {room : ℕ} {lay :
 
   -- further points are on the path
   pub grown : {w' : List ℕ} (count : ℕ) → 2 * count ≤ length xs → Ready g (cut xs count) w' (length (cut xs count) / 2) →
-      KeptFrom (2916 + length (cut xs count) / 2) w w' → count ≤ room → length w' ≡ length w →
+      KeptFrom (most_cells + length (cut xs count) / 2) w w' → count ≤ room → length w' ≡ length w →
       Stage xs ns g room lay ds w' count f
   grown {w' = w'} count long h behind fits same =
       let n = count_cut xs count long in

@@ -7,7 +7,7 @@ ghost use Rattle.rules.specs.Tools.{sum};
 ghost use Rattle.rules.specs.HandedOver.{Plate};
 ghost use Rattle.rules.specs.Box.{box};
 ghost use Rattle.rules.specs.GridAndNearest.{grid_of};
-ghost use Rattle.plate_laws.specs.Accepted.{Accepted};
+ghost use Rattle.plate_laws.specs.AcceptedInput.{Accepted};
 ghost use Rattle.work_layout.specs.Laid.{Laid};
 ghost use Rattle.work_layout.specs.Parts.{from};
 ghost use Rattle.waiting.specs.Holds.{Holds};

@@ -5,17 +5,18 @@ use Prim.Native.Nat.{ℕ, ◌+◌, ◌*◌, ◌<◌}
 use lib.Ieee.{Float, nan}
 use lib.ListN.{length, set}
 use lib.Seq.{set-get_or}
+use Rattle.rules.specs.Limits.{most_cells}
 use Rattle.rules.specs.HandedOver.{at}
 use Rattle.rules.specs.declared.SpatialGrid.{SpatialGrid}
 use Rattle.plate_laws.specs.Lists.{All}
 use Rattle.plate_laws.specs.FiniteDistances.{OnPlate}
-use Rattle.plate_laws.specs.Accepted.{point_on}
+use Rattle.plate_laws.specs.AcceptedInput.{point_on}
 use Rattle.grid.specs.SaneGrid.{SaneGrid}
 use Rattle.history.specs.History.{appended, inserted, Ready}
 use Rattle.history.specs.OneMorePoint.{ready_append}
 
 pub ready_next : (g : SpatialGrid) (xs : List Float) (work : List ℕ) (k : ℕ) → SaneGrid g → All OnPlate xs → Ready g xs work k →
-    2 * k + 1 < length xs → 2916 + k < length work → Ready g xs (inserted g work k (at xs k)) (k + 1)
+    2 * k + 1 < length xs → most_cells + k < length work → Ready g xs (inserted g work k (at xs k)) (k + 1)
 unfolding at
 ready_next g xs work k s a r hp hw =
     let on = point_on xs k a hp in

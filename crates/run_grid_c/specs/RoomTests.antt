@@ -9,7 +9,7 @@ use Rattle.rules.specs.HandedOver.{Answer, gives, refuses, refusal, refused_by, 
 use Rattle.rules.specs.Box.{box}
 use Rattle.rules.specs.declared.Refusal.{Refusal}
 use Rattle.plate_laws.specs.Rows.{not_given}
-use Rattle.plate_laws.specs.Accepted.{Accepted, contours_gives}
+use Rattle.plate_laws.specs.AcceptedInput.{Accepted, contours_gives}
 use Rattle.rounding_errors.specs.Boxes.{SoundBox, accepted_sound}
 use Rattle.run_grid_c.specs.Results.{given, accepted, has_room, has_query_room}
 

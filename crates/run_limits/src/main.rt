@@ -5,7 +5,9 @@
 #![tactic(auto)]
 
 use results::RetraceResult;
-use run_boundary::{ABOVE, BELOW, along, tell};
+use run_boundary::{
+    ABOVE, BELOW, FIXED_WORK, MOST_CONTOURS, MOST_POINTS, points_along, tell, to_and_fro,
+};
 use std::fmt::Display;
 use std::io;
 use twillharbor::{
@@ -19,6 +21,28 @@ struct LayeredPlate<'a> {
     points: &'a [f64],
     lengths: &'a [u32],
     layers: &'a [u32],
+}
+
+// Contours of no point.
+const EMPTY: LayeredPlate<'static> = LayeredPlate {
+    points: &[],
+    lengths: &[0; MOST_CONTOURS],
+    layers: &[0; MOST_CONTOURS],
+};
+
+const TOO_MANY_EMPTY: LayeredPlate<'static> = LayeredPlate {
+    points: &[],
+    lengths: &[0; MOST_CONTOURS + 1],
+    layers: &[0; MOST_CONTOURS + 1],
+};
+
+// The points of one contour, which is of layer 0.
+fn one_contour<'a>(points: &'a [f64], length: &'a [u32; 1]) -> LayeredPlate<'a> {
+    LayeredPlate {
+        points,
+        lengths: length,
+        layers: &[0],
+    }
 }
 
 // The lengths of the slices that the retrace call is lent.
@@ -110,12 +134,7 @@ fn retrace<R: Print + AllocGlobal>(
 
 // The start call on one contour of two points, (ax, 0) and (0, by).
 fn line_start<R: Print>(rt: &R, name: &str, ax: f64, by: f64) -> io::Result<()> {
-    let p = LayeredPlate {
-        points: &[ax, 0.0, 0.0, by],
-        lengths: &[2],
-        layers: &[0],
-    };
-    start(rt, name, p)
+    start(rt, name, one_contour(&[ax, 0.0, 0.0, by], &[2]))
 }
 
 fn coordinates<R: Print>(rt: &R) -> io::Result<()> {
@@ -129,53 +148,30 @@ fn coordinates<R: Print>(rt: &R) -> io::Result<()> {
     line_start(rt, "start, next below -1000000 at 3", 0.0, BELOW)
 }
 
-fn most_contours<R: Print>(rt: &R) -> io::Result<()> {
-    let p = LayeredPlate {
-        points: &[],
-        lengths: &[0; 4096],
-        layers: &[0; 4096],
-    };
-    start(rt, "start, 4096 empty contours", p)?;
+fn empty_contours<R: Print>(rt: &R) -> io::Result<()> {
+    start(rt, "start, 4096 empty contours", EMPTY)?;
     let name = "order, 4096 empty contours, work 4096";
-    order(rt, name, p, &mut [0; 2], &mut [0; 4096])?;
+    order(rt, name, EMPTY, &mut [0; 2], &mut [0; MOST_CONTOURS])?;
     let name = "order, 4096 empty contours, work 4095";
-    order(rt, name, p, &mut [0; 2], &mut [0; 4095])
-}
-
-fn too_many_contours<R: Print>(rt: &R) -> io::Result<()> {
-    let p = LayeredPlate {
-        points: &[],
-        lengths: &[0; 4097],
-        layers: &[0; 4097],
-    };
-    start(rt, "start, 4097 empty contours", p)?;
+    order(rt, name, EMPTY, &mut [0; 2], &mut [0; MOST_CONTOURS - 1])?;
+    start(rt, "start, 4097 empty contours", TOO_MANY_EMPTY)?;
     let name = "order, 4097 empty contours, work 4097";
-    order(rt, name, p, &mut [0; 2], &mut [0; 4097])
+    let mut work = [0u32; MOST_CONTOURS + 1];
+    order(rt, name, TOO_MANY_EMPTY, &mut [0; 2], &mut work)
 }
 
-fn most_points<R: Print + AllocGlobal>(rt: &R) -> io::Result<()> {
-    let points = vec![in rt.alloc(); 0.0f64; 131072]?;
-    let mut path = vec![in rt.alloc(); 0.0f64; 131072]?;
-    let p = LayeredPlate {
-        points: points.as_slice(),
-        lengths: &[65536],
-        layers: &[0],
-    };
+fn many_points<R: Print + AllocGlobal>(rt: &R) -> io::Result<()> {
+    let points = vec![in rt.alloc(); 0.0f64; 2 * MOST_POINTS]?;
+    let mut path = vec![in rt.alloc(); 0.0f64; 2 * MOST_POINTS]?;
+    let p = one_contour(points.as_slice(), &[MOST_POINTS as u32]);
     start(rt, "start, 65536 points", p)?;
     let name = "straight, 65536 points, path 131072";
     straight(rt, name, p, path.as_mut_slice(), &mut [0; 1])?;
-    let mut shorter = vec![in rt.alloc(); 0.0f64; 131070]?;
+    let mut shorter = vec![in rt.alloc(); 0.0f64; 2 * MOST_POINTS - 2]?;
     let name = "straight, 65536 points, path 131070";
-    straight(rt, name, p, shorter.as_mut_slice(), &mut [0; 1])
-}
-
-fn too_many_points<R: Print + AllocGlobal>(rt: &R) -> io::Result<()> {
-    let points = vec![in rt.alloc(); 0.0f64; 131074]?;
-    let p = LayeredPlate {
-        points: points.as_slice(),
-        lengths: &[65537],
-        layers: &[0],
-    };
+    straight(rt, name, p, shorter.as_mut_slice(), &mut [0; 1])?;
+    let more = vec![in rt.alloc(); 0.0f64; 2 * MOST_POINTS + 2]?;
+    let p = one_contour(more.as_slice(), &[MOST_POINTS as u32 + 1]);
     start(rt, "start, 65537 points", p)
 }
 
@@ -195,17 +191,9 @@ fn sums<R: Print>(rt: &R) -> io::Result<()> {
 }
 
 fn short_slices<R: Print>(rt: &R) -> io::Result<()> {
-    let three = LayeredPlate {
-        points: &[0.0; 3],
-        lengths: &[1],
-        layers: &[0],
-    };
+    let three = one_contour(&[0.0; 3], &[1]);
     start(rt, "start, length 1, 3 coordinates", three)?;
-    let one = LayeredPlate {
-        points: &[0.0; 2],
-        lengths: &[1],
-        layers: &[0],
-    };
+    let one = one_contour(&[0.0; 2], &[1]);
     let name = "order, 1 contour, order slice 1";
     order(rt, name, one, &mut [0; 1], &mut [0; 1])?;
     let two = LayeredPlate {
@@ -221,18 +209,13 @@ fn short_slices<R: Print>(rt: &R) -> io::Result<()> {
 
 // The retrace call on one contour of two points, (ax, 0) and (0, by).
 fn line_retrace<R: Print + AllocGlobal>(rt: &R, name: &str, ax: f64, by: f64) -> io::Result<()> {
-    let p = LayeredPlate {
-        points: &[ax, 0.0, 0.0, by],
-        lengths: &[2],
-        layers: &[0],
-    };
     let lent = LentLengths {
         path: 4,
         marks: 4,
-        work: 16402,
+        work: 10 + 8 + FIXED_WORK,
         distances: 1,
     };
-    retrace(rt, name, p, lent)
+    retrace(rt, name, one_contour(&[ax, 0.0, 0.0, by], &[2]), lent)
 }
 
 fn coordinates_retrace<R: Print + AllocGlobal>(rt: &R) -> io::Result<()> {
@@ -263,119 +246,96 @@ fn retrace_each<R: Print + AllocGlobal>(
 
 // C = 0: u32 work of 8 x 4,096 + 16,384 is enough.
 fn empty_contours_retrace<R: Print + AllocGlobal>(rt: &R) -> io::Result<()> {
-    let p = LayeredPlate {
-        points: &[],
-        lengths: &[0; 4096],
-        layers: &[0; 4096],
-    };
+    let work = 8 * MOST_CONTOURS + FIXED_WORK;
     let cases = [
-        (0, 0, 49152, 4096),
-        (0, 0, 49151, 4096),
-        (0, 0, 49152, 4095),
-        (0, 0, 49151, 4095),
+        (0, 0, work, MOST_CONTOURS),
+        (0, 0, work - 1, MOST_CONTOURS),
+        (0, 0, work, MOST_CONTOURS - 1),
+        (0, 0, work - 1, MOST_CONTOURS - 1),
     ];
-    retrace_each(rt, "4096 empty contours", p, &cases)
+    retrace_each(rt, "4096 empty contours", EMPTY, &cases)
 }
 
 // The result has 4,096 points: C = 4,096 is enough, with u32 work of 4,096 + 4 x 4,096 + 8 x 4,096 + 16,384.
 fn single_points_retrace<R: Print + AllocGlobal>(rt: &R) -> io::Result<()> {
-    let mut points = [0.0f64; 8192];
-    along(&mut points);
+    let points = points_along(rt, MOST_CONTOURS)?;
     let p = LayeredPlate {
-        points: &points,
-        lengths: &[1; 4096],
-        layers: &[0; 4096],
+        points: points.as_slice(),
+        lengths: &[1; MOST_CONTOURS],
+        layers: &[0; MOST_CONTOURS],
     };
+    let room = 2 * MOST_CONTOURS;
+    let work = 13 * MOST_CONTOURS + FIXED_WORK;
     let cases = [
-        (8192, 8192, 69632, 4096),
-        (8192, 8192, 69631, 4096),
-        (8192, 8192, 69632, 4095),
-        (8192, 8192, 69631, 4095),
-        (8191, 8192, 69631, 4096),
-        (8192, 8191, 69631, 4096),
-        (8191, 8192, 69630, 4096),
+        (room, room, work, MOST_CONTOURS),
+        (room, room, work - 1, MOST_CONTOURS),
+        (room, room, work, MOST_CONTOURS - 1),
+        (room, room, work - 1, MOST_CONTOURS - 1),
+        (room - 1, room, work - 1, MOST_CONTOURS),
+        (room, room - 1, work - 1, MOST_CONTOURS),
+        (room - 1, room, work - 2, MOST_CONTOURS),
     ];
     retrace_each(rt, "4096 contours of a point", p, &cases)
 }
 
 fn too_many_contours_retrace<R: Print + AllocGlobal>(rt: &R) -> io::Result<()> {
-    let p = LayeredPlate {
-        points: &[],
-        lengths: &[0; 4097],
-        layers: &[0; 4097],
-    };
-    retrace_each(rt, "4097 empty contours", p, &[(0, 0, 49160, 4097)])
+    let work = 8 * (MOST_CONTOURS + 1) + FIXED_WORK;
+    let cases = [(0, 0, work, MOST_CONTOURS + 1)];
+    retrace_each(rt, "4097 empty contours", TOO_MANY_EMPTY, &cases)
 }
 
-// The result has 65,536 points: C = 65,536 is enough, with u32 work of 65,536 + 4 x 65,536 + 8 + 16,384.
+// What is enough for 65,536 points of one contour: C = 65,536, with u32 work of 65,536 + 4 x 65,536 + 8 + 16,384.
+const ROOM: usize = 2 * MOST_POINTS;
+
+const WORK: usize = 5 * MOST_POINTS + 8 + FIXED_WORK;
+
 fn most_points_retrace<R: Print + AllocGlobal>(rt: &R) -> io::Result<()> {
-    let mut points = vec![in rt.alloc(); 0.0f64; 131072]?;
-    along(points.as_mut_slice());
-    let p = LayeredPlate {
-        points: points.as_slice(),
-        lengths: &[65536],
-        layers: &[0],
-    };
+    let points = points_along(rt, MOST_POINTS)?;
     let cases = [
-        (131072, 131072, 344072, 1),
-        (131072, 131072, 344071, 1),
-        (131072, 131072, 344072, 0),
-        (131072, 131072, 344071, 0),
-        (131070, 131072, 344071, 1),
-        (131072, 131070, 344071, 1),
+        (ROOM, ROOM, WORK, 1),
+        (ROOM, ROOM, WORK - 1, 1),
+        (ROOM, ROOM, WORK, 0),
+        (ROOM, ROOM, WORK - 1, 0),
+        (ROOM - 2, ROOM, WORK - 1, 1),
+        (ROOM, ROOM - 2, WORK - 1, 1),
     ];
+    let p = one_contour(points.as_slice(), &[MOST_POINTS as u32]);
     retrace_each(rt, "65536 points", p, &cases)
 }
 
-// Points in two opposite corners in turn.
-fn to_and_fro(points: &mut [f64]) {
-    for pair in points.chunks_exact_mut(4) {
-        pair[0] = -1000000.0;
-        pair[1] = -1000000.0;
-        pair[2] = 1000000.0;
-        pair[3] = 1000000.0;
-    }
-}
-
-// No plate's segments are longer together.
+// Points in two opposite corners in turn: no plate's segments are longer together.
 fn farthest_points_retrace<R: Print + AllocGlobal>(rt: &R) -> io::Result<()> {
-    let mut points = vec![in rt.alloc(); 0.0f64; 131072]?;
-    to_and_fro(points.as_mut_slice());
-    let p = LayeredPlate {
-        points: points.as_slice(),
-        lengths: &[65536],
-        layers: &[0],
-    };
+    let mut points = vec![in rt.alloc(); 0.0f64; 2 * MOST_POINTS]?;
+    let corners = [-1000000.0, -1000000.0, 1000000.0, 1000000.0];
+    to_and_fro(points.as_mut_slice(), corners);
+    let p = one_contour(points.as_slice(), &[MOST_POINTS as u32]);
     let name = "65536 points from corner to corner";
-    retrace_each(rt, name, p, &[(131072, 131072, 344072, 1)])
+    retrace_each(rt, name, p, &[(ROOM, ROOM, WORK, 1)])
 }
 
 fn too_many_points_retrace<R: Print + AllocGlobal>(rt: &R) -> io::Result<()> {
-    let points = vec![in rt.alloc(); 0.0f64; 131074]?;
-    let p = LayeredPlate {
-        points: points.as_slice(),
-        lengths: &[65537],
-        layers: &[0],
-    };
-    retrace_each(rt, "65537 points", p, &[(131072, 131072, 344072, 1)])
+    let points = vec![in rt.alloc(); 0.0f64; 2 * MOST_POINTS + 2]?;
+    let p = one_contour(points.as_slice(), &[MOST_POINTS as u32 + 1]);
+    retrace_each(rt, "65537 points", p, &[(ROOM, ROOM, WORK, 1)])
 }
 
 // The four calls, with slices that are enough for one point in 4,096 contours: C = 1, with u32 work of 1 + 4 + 8 x 4,096 + 16,384.
 fn four_calls<R: Print + AllocGlobal>(rt: &R, name: &str, p: LayeredPlate<'_>) -> io::Result<()> {
-    let mut work = [0u32; 4096];
+    let mut work = [0u32; MOST_CONTOURS];
     print!(rt; "start, ")?;
     start(rt, name, p)?;
     print!(rt; "order, ")?;
     order(rt, name, p, &mut [0; 2], &mut work)?;
     print!(rt; "straight, ")?;
     straight(rt, name, p, &mut [0.0; 2], &mut work)?;
-    retrace_each(rt, name, p, &[(2, 2, 49157, 4096)])
+    let enough = 5 + 8 * MOST_CONTOURS + FIXED_WORK;
+    retrace_each(rt, name, p, &[(2, 2, enough, MOST_CONTOURS)])
 }
 
 // 4,096 contours of which the last alone has a point.
-fn last_alone() -> [u32; 4096] {
-    let mut lengths = [0u32; 4096];
-    lengths[4095] = 1;
+fn last_alone() -> [u32; MOST_CONTOURS] {
+    let mut lengths = [0u32; MOST_CONTOURS];
+    lengths[MOST_CONTOURS - 1] = 1;
     lengths
 }
 
@@ -386,9 +346,9 @@ fn last_layers<R: Print + AllocGlobal>(rt: &R) -> io::Result<()> {
         ("layer 16 at 4095 of 4096", 0, 16),
         ("layer 16 at 4094 and 4095", 16, 16),
     ] {
-        let mut layers = [0u32; 4096];
-        layers[4094] = one;
-        layers[4095] = last;
+        let mut layers = [0u32; MOST_CONTOURS];
+        layers[MOST_CONTOURS - 2] = one;
+        layers[MOST_CONTOURS - 1] = last;
         let p = LayeredPlate {
             points: &[0.0; 2],
             lengths: &last_alone(),
@@ -404,16 +364,16 @@ fn miscounted_layers<R: Print + AllocGlobal>(rt: &R) -> io::Result<()> {
     let short = LayeredPlate {
         points: &[0.0; 2],
         lengths: &last_alone(),
-        layers: &[0; 4095],
+        layers: &[0; MOST_CONTOURS - 1],
     };
     four_calls(rt, "4096 contours, 4095 layers", short)?;
     let long = LayeredPlate {
-        layers: &[0; 4097],
+        layers: &[0; MOST_CONTOURS + 1],
         ..short
     };
     four_calls(rt, "4096 contours, 4097 layers", long)?;
     let high = LayeredPlate {
-        layers: &[16; 4095],
+        layers: &[16; MOST_CONTOURS - 1],
         ..short
     };
     four_calls(rt, "4096 contours, 4095 layers of 16", high)
@@ -423,19 +383,19 @@ fn miscounted_layers<R: Print + AllocGlobal>(rt: &R) -> io::Result<()> {
 fn layers_after_counts<R: Print + AllocGlobal>(rt: &R) -> io::Result<()> {
     let short = LayeredPlate {
         points: &[],
-        lengths: &[0; 4097],
-        layers: &[16; 4096],
+        lengths: &[0; MOST_CONTOURS + 1],
+        layers: &[16; MOST_CONTOURS],
     };
     four_calls(rt, "4097 empty contours, 4096 layers of 16", short)?;
     let high = LayeredPlate {
-        layers: &[16; 4097],
+        layers: &[16; MOST_CONTOURS + 1],
         ..short
     };
     four_calls(rt, "4097 empty contours of layer 16", high)?;
-    let points = vec![in rt.alloc(); 0.0f64; 131074]?;
+    let points = vec![in rt.alloc(); 0.0f64; 2 * MOST_POINTS + 2]?;
     let none = LayeredPlate {
         points: points.as_slice(),
-        lengths: &[65537],
+        lengths: &[MOST_POINTS as u32 + 1],
         layers: &[],
     };
     four_calls(rt, "65537 points, no layer", none)?;
@@ -477,7 +437,7 @@ fn four_home_calls<R: Print>(rt: &R, name: &str, p: ParkedPlate) -> io::Result<(
         y,
         &mut [0.0; 2],
         &mut [0; 2],
-        &mut [0; 16397],
+        &mut [0; 5 + 8 + FIXED_WORK],
         &mut [0.0; 1],
     );
     print!(rt; "retrace home, ")?;
@@ -530,10 +490,8 @@ fn parked_between<R: Print>(rt: &R) -> io::Result<()> {
 
 fn main(rt: HostRuntime) -> io::Result<()> {
     coordinates(&rt)?;
-    most_contours(&rt)?;
-    too_many_contours(&rt)?;
-    most_points(&rt)?;
-    too_many_points(&rt)?;
+    empty_contours(&rt)?;
+    many_points(&rt)?;
     sums(&rt)?;
     short_slices(&rt)?;
     coordinates_retrace(&rt)?;

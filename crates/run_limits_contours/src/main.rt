@@ -3,11 +3,14 @@
 // last, and how many coordinates of the picture are those that the path has in the same place.
 #![tactic(auto)]
 
-ghost use Rattle.std.specs.Prelude.{◌≤◌};
+ghost use Rattle.std.specs.Prelude.{◌+◌, ◌≤◌};
+ghost use Rattle.rules.specs.Limits.{most_points};
 
 use results::ContoursResult;
 use rules::{BACK_STEP, CUT, JUMP, TOUCH};
-use run_boundary::{ABOVE, BELOW, along, tell};
+use run_boundary::{
+    ABOVE, HIGHEST_VERTEX, LINES, MOST_POINTS, along, points_along, set_last, tell, to_and_fro,
+};
 use std::io;
 use twillharbor::twillharbor_contours;
 
@@ -26,8 +29,15 @@ struct Room {
     work: usize,
 }
 
+// Room for each contour, with work for 65,536 path points.
+const ROOM: Room = Room {
+    points: 2 * MOST_POINTS,
+    lengths: MOST_POINTS,
+    work: 4 * MOST_POINTS,
+};
+
 // The difference that makes references fall by one, as u32 numbers wrap.
-const DOWN: u32 = 4294967295;
+const DOWN: u32 = u32::MAX;
 
 // How many coordinates of the picture the path has in the same place.
 fn in_place(points: &[f64], path: &[f64]) -> usize {
@@ -111,17 +121,6 @@ fn line<R: Print + AllocGlobal>(rt: &R, name: &str, ax: f64, by: f64) -> io::Res
         work: 8,
     };
     recover(rt, name, h, room)
-}
-
-fn coordinates<R: Print + AllocGlobal>(rt: &R) -> io::Result<()> {
-    line(rt, "1000000 at 0", 1000000.0, 0.0)?;
-    line(rt, "-1000000 at 3", 0.0, -1000000.0)?;
-    line(rt, "next above 1000000 at 0", ABOVE, 0.0)?;
-    line(rt, "next above 1000000 at 3", 0.0, ABOVE)?;
-    line(rt, "next below -1000000 at 0", BELOW, 0.0)?;
-    line(rt, "next below -1000000 at 3", 0.0, BELOW)?;
-    line(rt, "NaN at 0", f64::NAN, 0.0)?;
-    line(rt, "NaN at 3", 0.0, f64::NAN)
 }
 
 // Few path points, with slices that are long enough.
@@ -224,76 +223,51 @@ fn in_order<R: Print + AllocGlobal>(rt: &R) -> io::Result<()> {
 
 // Starts and cuts at the limit of vertices, and where one more wraps to 0.
 fn starts_and_cuts<R: Print + AllocGlobal>(rt: &R) -> io::Result<()> {
+    let last = HIGHEST_VERTEX;
     let point = [0.0, 0.0];
-    few(rt, "start on 65535", &point, &[0, 65535])?;
-    few(rt, "start on 65536", &point, &[0, 65536])?;
-    few(rt, "start on 4294967295", &point, &[0, 4294967295])?;
+    few(rt, "start on 65535", &point, &[0, last])?;
+    few(rt, "start on 65536", &point, &[0, last + 1])?;
+    few(rt, "start on 4294967295", &point, &[0, u32::MAX])?;
     let pair = [0.0, 0.0, 1.0, 0.0];
-    few(
-        rt,
-        "start on 65534, cut 65534",
-        &pair,
-        &[0, 65534, CUT, 65534],
-    )?;
-    few(
-        rt,
-        "start on 65535, cut 65534",
-        &pair,
-        &[0, 65535, CUT, 65534],
-    )?;
-    few(
-        rt,
-        "start on 65535, cut 65535",
-        &pair,
-        &[0, 65535, CUT, 65535],
-    )?;
-    few(
-        rt,
-        "start on 0, cut 4294967295",
-        &pair,
-        &[0, 0, CUT, 4294967295],
-    )
+    let up = [0, last - 1, CUT, last - 1];
+    few(rt, "start on 65534, cut 65534", &pair, &up)?;
+    let down = [0, last, CUT, last - 1];
+    few(rt, "start on 65535, cut 65534", &pair, &down)?;
+    let beyond = [0, last, CUT, last];
+    few(rt, "start on 65535, cut 65535", &pair, &beyond)?;
+    let wrapped = [0, 0, CUT, u32::MAX];
+    few(rt, "start on 0, cut 4294967295", &pair, &wrapped)
 }
 
 // Jumps and touches there.
 fn jumps_and_touches<R: Print + AllocGlobal>(rt: &R) -> io::Result<()> {
+    let last = HIGHEST_VERTEX;
     let pair = [0.0, 0.0, 1.0, 0.0];
-    few(rt, "start on 0, jump to 65535", &pair, &[0, 0, JUMP, 65535])?;
-    few(rt, "start on 0, jump to 65536", &pair, &[0, 0, JUMP, 65536])?;
-    few(
-        rt,
-        "start on 0, jump to 4294967295",
-        &pair,
-        &[0, 0, JUMP, 4294967295],
-    )?;
+    few(rt, "start on 0, jump to 65535", &pair, &[0, 0, JUMP, last])?;
+    let beyond = [0, 0, JUMP, last + 1];
+    few(rt, "start on 0, jump to 65536", &pair, &beyond)?;
+    let wrapped = [0, 0, JUMP, u32::MAX];
+    few(rt, "start on 0, jump to 4294967295", &pair, &wrapped)?;
     let same = [0.0, 0.0, 0.0, 0.0];
     few(
         rt,
         "start on 0, touch of 65535",
         &same,
-        &[0, 0, TOUCH, 65535],
+        &[0, 0, TOUCH, last],
     )?;
-    few(
-        rt,
-        "start on 0, touch of 65536",
-        &same,
-        &[0, 0, TOUCH, 65536],
-    )
+    let beyond = [0, 0, TOUCH, last + 1];
+    few(rt, "start on 0, touch of 65536", &same, &beyond)
 }
 
 // A back-step over the last number there is, one over its own pair, and the last number as a kind.
 fn steps_and_kinds<R: Print + AllocGlobal>(rt: &R) -> io::Result<()> {
     let back = [0.0, 0.0, 1.0, 0.0, 0.0, 0.0];
-    let wrapped = [0, 0, CUT, 0, BACK_STEP, 4294967295];
+    let wrapped = [0, 0, CUT, 0, BACK_STEP, u32::MAX];
     few(rt, "back to path point 4294967295", &back, &wrapped)?;
-    few(
-        rt,
-        "back to path point 1",
-        &back,
-        &[0, 0, CUT, 0, BACK_STEP, 1],
-    )?;
+    let own = [0, 0, CUT, 0, BACK_STEP, 1];
+    few(rt, "back to path point 1", &back, &own)?;
     let pair = [0.0, 0.0, 1.0, 0.0];
-    few(rt, "kind 4294967295", &pair, &[0, 0, 4294967295, 1])
+    few(rt, "kind 4294967295", &pair, &[0, 0, u32::MAX, 1])
 }
 
 // Marks of this kind over all of the slice, with the references r, r + step, r + 2 step and so on.
@@ -315,7 +289,7 @@ fn marks_of<R: AllocGlobal>(
     from: u32,
     step: u32,
 ) -> io::Result<Vec<u32>>
-    requires { n ≤ 65538 }
+    requires { n ≤ most_points + 2 }
 {
     let mut marks = vec![in rt.alloc(); 0u32; 2 * n]?;
     if let Some((first, later)) = marks.as_mut_slice().split_at_mut_checked(2) {
@@ -325,248 +299,172 @@ fn marks_of<R: AllocGlobal>(
     Ok(marks)
 }
 
-// n points along a line.
-fn points_along<R: AllocGlobal>(rt: &R, n: usize) -> io::Result<Vec<f64>>
-    requires { n ≤ 65538 }
-{
-    let mut points = vec![in rt.alloc(); 0.0f64; 2 * n]?;
-    along(points.as_mut_slice());
-    Ok(points)
-}
-
-// Sets the last mark.
-fn set_last(marks: &mut [u32], kind: u32, reference: u32) {
-    if let [.., k, r] = marks {
-        *k = kind;
-        *r = reference;
-    }
-}
-
-// Along a contour of 65,536 points, each slice one short of what is exact.
-fn one_contour_short<R: Print + AllocGlobal>(
+// A path along a line, over these marks.
+fn along_in_room<R: Print + AllocGlobal>(
     rt: &R,
-    h: PathSlices<'_>,
-    exact: Room,
+    name: &str,
+    marks: &[u32],
+    room: Room,
 ) -> io::Result<()> {
+    let mut path = vec![in rt.alloc(); 0.0f64; marks.len()]?;
+    along(path.as_mut_slice());
+    let h = PathSlices {
+        path: path.as_slice(),
+        marks,
+    };
+    recover(rt, name, h, room)
+}
+
+// The same with room for each vertex, and work just enough.
+fn along_marks<R: Print + AllocGlobal>(rt: &R, name: &str, marks: &[u32]) -> io::Result<()> {
+    let room = Room {
+        work: marks.len().saturating_mul(2),
+        ..ROOM
+    };
+    along_in_room(rt, name, marks, room)
+}
+
+// A start and 65,535 cuts, along a contour of 65,536 points: slices as long as they have to be, and each one short.
+fn one_contour<R: Print + AllocGlobal>(rt: &R) -> io::Result<()> {
+    let marks = marks_of(rt, MOST_POINTS, 0, CUT, 0, 1)?;
+    let exact = Room { lengths: 1, ..ROOM };
     let work = Room {
-        work: 262143,
+        work: exact.work - 1,
         ..exact
     };
     let points = Room {
-        points: 131071,
+        points: exact.points - 1,
         ..exact
     };
     let lengths = Room {
         lengths: 0,
         ..exact
     };
-    let name = "one contour of 65536";
-    recover(rt, name, h, work)?;
-    recover(rt, name, h, points)?;
-    recover(rt, name, h, lengths)
-}
-
-// A start and 65,535 cuts, along a contour of 65,536 points.
-fn one_contour<R: Print + AllocGlobal>(rt: &R) -> io::Result<()> {
-    let path = points_along(rt, 65536)?;
-    let marks = marks_of(rt, 65536, 0, CUT, 0, 1)?;
-    let h = PathSlices {
-        path: path.as_slice(),
-        marks: marks.as_slice(),
-    };
-    let exact = Room {
-        points: 131072,
-        lengths: 1,
-        work: 262144,
-    };
-    recover(rt, "one contour of 65536", h, exact)?;
-    one_contour_short(rt, h, exact)?;
-    let down = marks_of(rt, 65536, 65535, CUT, 65534, DOWN)?;
-    let reversed = PathSlices {
-        marks: down.as_slice(),
-        ..h
-    };
-    recover(rt, "one contour of 65536, from its end", reversed, exact)
+    for room in [exact, work, points, lengths] {
+        along_in_room(rt, "one contour of 65536", marks.as_slice(), room)?;
+    }
+    let last = HIGHEST_VERTEX;
+    let down = marks_of(rt, MOST_POINTS, last, CUT, last - 1, DOWN)?;
+    let name = "one contour of 65536, from its end";
+    along_in_room(rt, name, down.as_slice(), exact)
 }
 
 // The same path with another last mark, path point 65,535's.
 fn last_mark<R: Print + AllocGlobal>(rt: &R, name: &str, kind: u32, r: u32) -> io::Result<()> {
-    let path = points_along(rt, 65536)?;
-    let mut marks = marks_of(rt, 65536, 0, CUT, 0, 1)?;
+    let mut marks = marks_of(rt, MOST_POINTS, 0, CUT, 0, 1)?;
     set_last(marks.as_mut_slice(), kind, r);
-    let h = PathSlices {
-        path: path.as_slice(),
-        marks: marks.as_slice(),
-    };
-    let room = Room {
-        points: 131072,
-        lengths: 2,
-        work: 262144,
-    };
+    let two = Room { lengths: 2, ..ROOM };
     print!(rt; "one contour of 65536, ")?;
-    recover(rt, name, h, room)
+    along_in_room(rt, name, marks.as_slice(), two)
 }
 
 fn last_marks<R: Print + AllocGlobal>(rt: &R) -> io::Result<()> {
-    last_mark(rt, "last a jump to 65535", JUMP, 65535)?;
-    last_mark(rt, "last a jump to 65536", JUMP, 65536)?;
-    last_mark(rt, "last a jump to 65534", JUMP, 65534)?;
-    last_mark(rt, "last a touch of 65535", TOUCH, 65535)?;
-    last_mark(rt, "last cut 65535", CUT, 65535)?;
-    last_mark(rt, "last cut 65533", CUT, 65533)?;
-    last_mark(rt, "last back to 65533", BACK_STEP, 65533)?;
-    last_mark(rt, "last a start", 0, 65535)?;
-    last_mark(rt, "last kind 5", 5, 65535)
-}
-
-// A path of n points along a line, over marks of this kind, with room for 65,536 points and contours.
-fn along_marks<R: Print + AllocGlobal>(
-    rt: &R,
-    name: &str,
-    n: usize,
-    marks: &[u32],
-) -> io::Result<()>
-    requires { n ≤ 65538 }
-{
-    let path = points_along(rt, n)?;
-    let h = PathSlices {
-        path: path.as_slice(),
-        marks,
-    };
-    let room = Room {
-        points: 131072,
-        lengths: 65536,
-        work: 4 * n,
-    };
-    recover(rt, name, h, room)
+    let last = HIGHEST_VERTEX;
+    last_mark(rt, "last a jump to 65535", JUMP, last)?;
+    last_mark(rt, "last a jump to 65536", JUMP, last + 1)?;
+    last_mark(rt, "last a jump to 65534", JUMP, last - 1)?;
+    last_mark(rt, "last a touch of 65535", TOUCH, last)?;
+    last_mark(rt, "last cut 65535", CUT, last)?;
+    last_mark(rt, "last cut 65533", CUT, last - 2)?;
+    last_mark(rt, "last back to 65533", BACK_STEP, MOST_POINTS as u32 - 3)?;
+    last_mark(rt, "last a start", 0, last)?;
+    last_mark(rt, "last kind 5", 5, last)
 }
 
 // 65,536 contours of a point, and a path point more.
 fn single_points<R: Print + AllocGlobal>(rt: &R) -> io::Result<()> {
-    let jumps = marks_of(rt, 65536, 0, JUMP, 1, 1)?;
-    along_marks(rt, "65536 contours", 65536, jumps.as_slice())?;
-    let path = points_along(rt, 65536)?;
-    let h = PathSlices {
-        path: path.as_slice(),
-        marks: jumps.as_slice(),
-    };
+    let jumps = marks_of(rt, MOST_POINTS, 0, JUMP, 1, 1)?;
+    along_marks(rt, "65536 contours", jumps.as_slice())?;
     let short = Room {
-        points: 131072,
-        lengths: 65535,
-        work: 262144,
+        lengths: MOST_POINTS - 1,
+        ..ROOM
     };
-    recover(rt, "65536 contours", h, short)?;
-    let more = marks_of(rt, 65537, 0, JUMP, 1, 1)?;
-    along_marks(rt, "65537 contours", 65537, more.as_slice())?;
-    let cuts = marks_of(rt, 65537, 0, CUT, 0, 1)?;
-    along_marks(rt, "one contour of 65537", 65537, cuts.as_slice())?;
-    let down = marks_of(rt, 65536, 65535, JUMP, 65534, DOWN)?;
-    along_marks(rt, "65536 contours, the last first", 65536, down.as_slice())?;
-    let pairs = marks_of(rt, 32768, 0, JUMP, 2, 2)?;
-    along_marks(
-        rt,
-        "32768 contours, every second missing",
-        32768,
-        pairs.as_slice(),
-    )
+    along_in_room(rt, "65536 contours", jumps.as_slice(), short)?;
+    let more = marks_of(rt, MOST_POINTS + 1, 0, JUMP, 1, 1)?;
+    along_marks(rt, "65537 contours", more.as_slice())?;
+    let cuts = marks_of(rt, MOST_POINTS + 1, 0, CUT, 0, 1)?;
+    along_marks(rt, "one contour of 65537", cuts.as_slice())?;
+    let last = HIGHEST_VERTEX;
+    let down = marks_of(rt, MOST_POINTS, last, JUMP, last - 1, DOWN)?;
+    let name = "65536 contours, the last first";
+    along_marks(rt, name, down.as_slice())?;
+    let pairs = marks_of(rt, MOST_POINTS / 2, 0, JUMP, 2, 2)?;
+    let name = "32768 contours, every second missing";
+    along_marks(rt, name, pairs.as_slice())
 }
 
 // All points are (0, 0).
 fn touching_points<R: Print + AllocGlobal>(rt: &R) -> io::Result<()> {
-    let path = vec![in rt.alloc(); 0.0f64; 131072]?;
-    let mut marks = marks_of(rt, 65536, 0, TOUCH, 1, 1)?;
-    let room = Room {
-        points: 131072,
-        lengths: 65536,
-        work: 262144,
-    };
+    let path = vec![in rt.alloc(); 0.0f64; 2 * MOST_POINTS]?;
+    let mut marks = marks_of(rt, MOST_POINTS, 0, TOUCH, 1, 1)?;
     let touches = PathSlices {
         path: path.as_slice(),
         marks: marks.as_slice(),
     };
-    recover(rt, "65536 contours of (0,0)", touches, room)?;
-    set_last(marks.as_mut_slice(), JUMP, 65535);
+    recover(rt, "65536 contours of (0,0)", touches, ROOM)?;
+    set_last(marks.as_mut_slice(), JUMP, HIGHEST_VERTEX);
     let jump = PathSlices {
         path: path.as_slice(),
         marks: marks.as_slice(),
     };
-    recover(rt, "65536 contours of (0,0), last a jump", jump, room)
+    recover(rt, "65536 contours of (0,0), last a jump", jump, ROOM)
 }
 
 // All landings are on vertices 32,768 and above, which are as many as the path points.
 fn far<R: Print + AllocGlobal>(rt: &R) -> io::Result<()> {
-    let up = marks_of(rt, 32768, 32768, JUMP, 32769, 1)?;
-    along_marks(rt, "landings from 32768 to 65535", 32768, up.as_slice())?;
-    let down = marks_of(rt, 32768, 65535, JUMP, 65534, DOWN)?;
-    along_marks(rt, "landings from 65535 to 32768", 32768, down.as_slice())?;
-    let cuts = marks_of(rt, 32768, 32768, CUT, 32768, 1)?;
-    along_marks(rt, "cuts from 32768 to 65535", 32768, cuts.as_slice())?;
-    let beyond = marks_of(rt, 32769, 32768, JUMP, 32769, 1)?;
-    along_marks(rt, "landings from 32768 to 65536", 32769, beyond.as_slice())?;
-    let mut again = marks_of(rt, 32768, 32768, JUMP, 32769, 1)?;
-    set_last(again.as_mut_slice(), JUMP, 32768);
-    along_marks(
-        rt,
-        "landings from 32768, the first again",
-        32768,
-        again.as_slice(),
-    )
+    let half = MOST_POINTS / 2;
+    let first = half as u32;
+    let last = HIGHEST_VERTEX;
+    let up = marks_of(rt, half, first, JUMP, first + 1, 1)?;
+    along_marks(rt, "landings from 32768 to 65535", up.as_slice())?;
+    let down = marks_of(rt, half, last, JUMP, last - 1, DOWN)?;
+    along_marks(rt, "landings from 65535 to 32768", down.as_slice())?;
+    let cuts = marks_of(rt, half, first, CUT, first, 1)?;
+    along_marks(rt, "cuts from 32768 to 65535", cuts.as_slice())?;
+    let beyond = marks_of(rt, half + 1, first, JUMP, first + 1, 1)?;
+    along_marks(rt, "landings from 32768 to 65536", beyond.as_slice())?;
+    let mut again = marks_of(rt, half, first, JUMP, first + 1, 1)?;
+    set_last(again.as_mut_slice(), JUMP, first);
+    let name = "landings from 32768, the first again";
+    along_marks(rt, name, again.as_slice())
 }
 
 // Landings on vertices that leave the same remainder, when divided by the number of path points.
 fn alike<R: Print + AllocGlobal>(rt: &R) -> io::Result<()> {
     let mut marks = marks_of(rt, 256, 256, JUMP, 512, 256)?;
-    let name = "landings on 256, 512 and so on to 65280, then on";
-    print!(rt; "{name} ")?;
-    set_last(marks.as_mut_slice(), JUMP, 0);
-    along_marks(rt, "0", 256, marks.as_slice())?;
-    print!(rt; "{name} ")?;
-    set_last(marks.as_mut_slice(), JUMP, 1);
-    along_marks(rt, "1", 256, marks.as_slice())?;
-    print!(rt; "{name} ")?;
-    set_last(marks.as_mut_slice(), JUMP, 256);
-    along_marks(rt, "256", 256, marks.as_slice())?;
-    print!(rt; "{name} ")?;
-    set_last(marks.as_mut_slice(), JUMP, 65280);
-    along_marks(rt, "65280", 256, marks.as_slice())?;
-    let two = marks_of(rt, 2, 65534, JUMP, 2, 1)?;
-    along_marks(rt, "landings on 65534 and 2", 2, two.as_slice())
-}
-
-// Points (0, 0), (1, 0), (0, 0), (1, 0) and so on, of a slice of zeros.
-fn to_and_fro(xs: &mut [f64]) {
-    for pair in xs.chunks_exact_mut(4) {
-        pair[2] = 1.0;
+    for (name, vertex) in [("0", 0u32), ("1", 1), ("256", 256), ("65280", 65280)] {
+        set_last(marks.as_mut_slice(), JUMP, vertex);
+        print!(rt; "landings on 256, 512 and so on to 65280, then on ")?;
+        along_marks(rt, name, marks.as_slice())?;
     }
+    let two = marks_of(rt, 2, HIGHEST_VERTEX - 1, JUMP, 2, 1)?;
+    along_marks(rt, "landings on 65534 and 2", two.as_slice())
 }
 
 // A cut and 65,536 back-steps along it, to and fro: a path may have more points than vertices.
 fn back_steps<R: Print + AllocGlobal>(rt: &R) -> io::Result<()> {
-    let mut path = vec![in rt.alloc(); 0.0f64; 131076]?;
-    to_and_fro(path.as_mut_slice());
-    let mut marks = marks_of(rt, 65538, 0, BACK_STEP, 4294967295, 1)?;
+    let points = MOST_POINTS + 2;
+    let mut path = vec![in rt.alloc(); 0.0f64; 2 * points]?;
+    to_and_fro(path.as_mut_slice(), [0.0, 0.0, 1.0, 0.0]);
+    let mut marks = marks_of(rt, points, 0, BACK_STEP, u32::MAX, 1)?;
     if let Some(mark) = marks.as_mut_slice().get_mut(2..4) {
         mark_on(mark, CUT, 0, 0);
     }
     let room = Room {
         points: 4,
         lengths: 1,
-        work: 262152,
+        work: 4 * points,
     };
     let back = PathSlices {
         path: path.as_slice(),
         marks: marks.as_slice(),
     };
     recover(rt, "65536 back-steps", back, room)?;
-    recover(
-        rt,
-        "65536 back-steps",
-        back,
-        Room {
-            work: 262151,
-            ..room
-        },
-    )?;
+    let short = Room {
+        work: room.work - 1,
+        ..room
+    };
+    recover(rt, "65536 back-steps", back, short)?;
     back_steps_altered(rt, path.as_slice(), marks, room)
 }
 
@@ -579,8 +477,8 @@ fn back_steps_altered<R: Print + AllocGlobal>(
 ) -> io::Result<()> {
     let mut altered = marks;
     for (kind, reference) in [
-        (BACK_STEP, 65536u32),
-        (BACK_STEP, 65534),
+        (BACK_STEP, MOST_POINTS as u32),
+        (BACK_STEP, MOST_POINTS as u32 - 2),
         (BACK_STEP, 1),
         (CUT, 0),
         (JUMP, 2),
@@ -603,7 +501,9 @@ fn back_steps_altered<R: Print + AllocGlobal>(
 }
 
 fn main(rt: HostRuntime) -> io::Result<()> {
-    coordinates(&rt)?;
+    for (name, ax, by) in LINES {
+        line(&rt, name, ax, by)?;
+    }
     zeros(&rt)?;
     slices(&rt)?;
     in_order(&rt)?;

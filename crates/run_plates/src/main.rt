@@ -5,7 +5,7 @@
 // there were and how many differed.
 #![tactic(auto)]
 
-use run_rows::{Parts, RowOutcome, RowPlate, Start, plate_at, replay, sizes_at, start_at};
+use run_rows::{RowOutcome, RowPlate, Start, parts_at, plate_at, replay, sizes_at, start_at};
 use run_words::Place;
 use std::alloc::{AllocError, Global};
 use std::io;
@@ -109,15 +109,8 @@ fn sized_row<'a>(
     {
         return Ok(None);
     }
-    let lengths = at.after(s.points);
-    let layers = lengths.after(s.lengths);
-    let answers = layers.after(s.layers);
-    let parts = Parts {
-        points: at,
-        lengths,
-        layers,
-        end: answers,
-    };
+    let parts = parts_at(at, s.points, s.lengths, s.layers);
+    let answers = parts.end;
     let plate = plate_at(alloc, parts, start)?;
     let fit = plate.fits;
     let recorded = Recorded { plate, sizes: s };

@@ -6,7 +6,7 @@
 #![tactic(auto)]
 
 use results::RetraceResult;
-use run_rows::{Parts, RowOutcome, RowPlate, Start, plate_at, replay, sizes_at, start_at};
+use run_rows::{RowOutcome, RowPlate, Start, parts_at, plate_at, replay, sizes_at, start_at};
 use run_words::Place;
 use std::alloc::{AllocError, Global};
 use std::io;
@@ -133,15 +133,8 @@ fn sized_row<'a>(
     if s.are_too_large() {
         return Ok(None);
     }
-    let lengths = at.after(s.points);
-    let layers = lengths.after(s.lengths);
-    let answers = layers.after(s.layers);
-    let parts = Parts {
-        points: at,
-        lengths,
-        layers,
-        end: answers,
-    };
+    let parts = parts_at(at, s.points, s.lengths, s.layers);
+    let answers = parts.end;
     let plate = plate_at(alloc, parts, start)?;
     let agrees = call_agrees(alloc, answers, &plate, s)?;
     Ok(Some(RowOutcome {

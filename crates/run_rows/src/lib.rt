@@ -1,7 +1,7 @@
 // Replays a text of recorded rows: the first word is the number of rows, and each row tells where the next begins.
 #![tactic(auto)]
 
-ghost use Rattle.std.specs.Prelude.{◌≡◌, ◌-◌, ◌/◌, ◌≤◌, ◌&&◌, eqb, length, IfOk, IfSome};
+ghost use Rattle.std.specs.Prelude.{◌≡◌, ◌+◌, ◌-◌, ◌/◌, ◌≤◌, ◌&&◌, eqb, min, length, IfOk, IfSome};
 ghost use Rattle.run_words.specs.Words.{float_of, low_half, words_as, unlike};
 ghost use Rattle.run_rows.specs.Starts.{start};
 
@@ -155,6 +155,26 @@ pub struct Parts<'a> {
     pub lengths: Place<'a>,
     pub layers: Place<'a>,
     pub end: Place<'a>,
+}
+
+// The parts of a plate whose coordinates start here: how many coordinates, lengths and layers there are.
+pub fn parts_at(at: Place<'_>, coordinates: usize, contours: usize, layered: usize) -> Parts<'_>
+    ensures points { result.points ≡ at.entry }
+    ensures lengths_text { result.lengths.text.now ≡ at.entry.text.now }
+    ensures lengths { result.lengths.word ≡ min (at.entry.word + coordinates) usize.MAX }
+    ensures layers_text { result.layers.text.now ≡ at.entry.text.now }
+    ensures layers { result.layers.word ≡ min (result.lengths.word + contours) usize.MAX }
+    ensures end_text { result.end.text.now ≡ at.entry.text.now }
+    ensures end { result.end.word ≡ min (result.layers.word + layered) usize.MAX }
+{
+    let lengths = at.after(coordinates);
+    let layers = lengths.after(contours);
+    Parts {
+        points: at,
+        lengths,
+        layers,
+        end: layers.after(layered),
+    }
 }
 
 // What the words from one place to another say.

@@ -13,20 +13,20 @@ use borrow.Author.Tests.{lt-ltb, le-ltb, eq-eqb, ne_eqb}
 use Rattle.std.proofs.Math.Bool.{and-false}
 use Rattle.rules.specs.Tools.{pick}
 use Rattle.work_layout.specs.Parts.{from, KeptBelow, KeptFrom}
-use Rattle.samples.specs.Chains.{first_of, is_in_cell, RisingChains}
+use Rattle.samples.specs.Chains.{first_of, is_sample_in, RisingChains}
 
 -- ---- the test
 
-pub in_cell : (owner cell : ℕ → ℕ) (c v : ℕ) → (owner v ≡ 0 → ⊥) → cell v ≡ c → is_in_cell owner cell c v ≡ true
-unfolding is_in_cell
+pub in_cell : (owner cell : ℕ → ℕ) (c v : ℕ) → (owner v ≡ 0 → ⊥) → cell v ≡ c → is_sample_in owner cell c v ≡ true
+unfolding is_sample_in
 in_cell owner cell c v h e = rw (lt-ltb 0 (owner v) (omega arith), eq-eqb (cell v) c e)
 
-pub not_in_cell : (owner cell : ℕ → ℕ) (c v : ℕ) → (cell v ≡ c → ⊥) → is_in_cell owner cell c v ≡ false
-unfolding is_in_cell
+pub not_in_cell : (owner cell : ℕ → ℕ) (c v : ℕ) → (cell v ≡ c → ⊥) → is_sample_in owner cell c v ≡ false
+unfolding is_sample_in
 not_in_cell owner cell c v h = rw (ne_eqb (cell v) c h) (and-false (ltb 0 (owner v)))
 
-pub no_sample : (owner cell : ℕ → ℕ) (c v : ℕ) → owner v ≡ 0 → is_in_cell owner cell c v ≡ false
-unfolding is_in_cell
+pub no_sample : (owner cell : ℕ → ℕ) (c v : ℕ) → owner v ≡ 0 → is_sample_in owner cell c v ≡ false
+unfolding is_sample_in
 no_sample owner cell c v e = rw (le-ltb 0 (owner v) (omega arith))
 
 -- ---- one vertex more

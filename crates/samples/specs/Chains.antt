@@ -19,10 +19,10 @@ pub record RisingChains (heads next : ℕ → ℕ) (test : ℕ → ℕ → Bool)
   pub succ : (c k : ℕ) → c < cells → v ≤ k → k < n → test c k ≡ true → next k ≡ first_of (test c) (n - suc k) (suc k)
 
 -- whether vertex v is a sample and lies in cell c
-unfoldable pub is_in_cell : (ℕ → ℕ) → (ℕ → ℕ) → ℕ → ℕ → Bool
-is_in_cell owner cell c v = ltb 0 (owner v) && eqb (cell v) c
+unfoldable pub is_sample_in : (ℕ → ℕ) → (ℕ → ℕ) → ℕ → ℕ → Bool
+is_sample_in owner cell c v = ltb 0 (owner v) && eqb (cell v) c
 
 -- the chains in the slice w of the samples from vertex v on
 abbrev pub ChainedSamples : List Float → SpatialGrid → Layout → (ℕ → ℕ) → List ℕ → ℕ → Type 0
 ChainedSamples xs g lay owner w v =
-    RisingChains (from w lay.heads) (from w lay.next) (is_in_cell owner (cell_at (at xs) g)) lay.cells lay.points v
+    RisingChains (from w lay.heads) (from w lay.next) (is_sample_in owner (cell_at (at xs) g)) lay.cells lay.points v

@@ -2,7 +2,7 @@
 use Rattle.std.specs.Prelude.{List, ℕ}
 use Rattle.samples.specs.PlatedSlice.{Plated}
 use Rattle.samples.specs.Chains.{ChainedSamples}
-use Rattle.samples.specs.declared.Frame.{Frame}
+use Rattle.frame.specs.declared.Frame.{Frame}
 
 abbrev pub PlatedBy : Frame → List ℕ → Type 0
 PlatedBy f w = Plated f.points.now f.grid.spatial f.layout w

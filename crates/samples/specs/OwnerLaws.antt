@@ -4,7 +4,7 @@ use Rattle.std.proofs.Common.{sym, ap, ◌∙◌, arith}
 use Rattle.std.proofs.Math.Decide.{dec_lt}
 use Rattle.rules.specs.SamplesAndCache.{sampled}
 use Rattle.rules.specs.declared.Point.{Point}
-use Rattle.plate_laws.specs.Waiting.{after_length}
+use Rattle.plate_laws.specs.WaitingContours.{after_length}
 use Rattle.samples.specs.Owners.{Owned}
 
 -- a flag for each vertex of a contour

@@ -15,21 +15,11 @@ ghost use Rattle.samples.specs.Owners.{MarkedContour, MarkedAll};
 ghost use Rattle.samples.specs.FrameSamples.{PlatedBy, ChainedBy};
 
 use contours::{ContourRange, Contours};
-use grid::Grid;
+use frame::Frame;
 use point::distance;
 use remainder::remainder;
 use rules::{Vertex, point_at};
 use work_layout::Layout;
-
-// A plate's points and grid, and how the parts of the lent slice lie for them. That the frame and the slice belong together stands in contracts, as
-// `PlatedBy frame work` and `Laid lay (length work)`, and in no type: both speak of the work slice, which is written between calls, so that a type that held
-// it could not be lent in parts.
-#[derive(Clone, Copy)]
-pub struct Frame<'a> {
-    pub points: &'a [f64],
-    pub grid: Grid,
-    pub layout: Layout,
-}
 
 // Whether a vertex is a sample: the total has reached the resolution there, or no vertex is left behind it.
 fn is_sample(reached: bool, left: u32) -> bool

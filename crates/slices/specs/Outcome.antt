@@ -12,7 +12,7 @@ use Rattle.rules.specs.Tools.{pick}
 use Rattle.rules.specs.HandedOver.{Plate, Answer, gives, refuses, number_of, place_of, refusal, RefusalRow, refused_by, work_short, full, plate_rows, order_rows, over, after, frees_work, WorkKept}
 use Rattle.rules.specs.declared.Refusal.{Refusal}
 use Rattle.plate_laws.specs.Rows.{Other, Lacks, rows_give, rows_pass, rows_append, rows_refuse, refusal_refuses, rows_lack}
-use Rattle.plate_laws.specs.Accepted.{input_lacks}
+use Rattle.plate_laws.specs.AcceptedInput.{input_lacks}
 
 -- ---- rows without refusal 6 alter no slice
 

@@ -3,6 +3,7 @@ use Rattle.std.specs.Prelude.{◌≡◌, refl, List, [], ◌∷◌, ◌++◌, �
 use Rattle.std.proofs.Common.{sym, ap, ap₂, ◌∙◌, append_assoc, add-one, arith, length-append, length-take, take-suc}
 use Rattle.rules.specs.HandedOver.{at, over}
 use Rattle.rules.specs.Marks.{coordinates}
+use Rattle.plate_laws.specs.Slices.{twice}
 use Rattle.slices.specs.Over.{over_snoc}
 
 -- f's and g's value for each
@@ -19,9 +20,6 @@ pub pairs_append : {A B : Type 0} (f g : A → B) (xs ys : List A) → pairs f g
 unfolding pairs
 pairs_append f g [] ys = refl
 pairs_append {A} {B} f g (x ∷ xs) ys = ap {B = List B} (λ r. f x ∷ g x ∷ r) (pairs_append f g xs ys)
-
-twice : (n : ℕ) → 2 * suc n ≡ suc (suc (2 * n))
-twice n = omega arith
 
 -- those of the first n
 pub pairs_take : {A B : Type 0} (f g : A → B) (n : ℕ) (xs : List A) → take (2 * n) (pairs f g xs) ≡ pairs f g (take n xs)

@@ -1,10 +1,10 @@
 -- A number just above the root of n, in units of 2^7: one step of Newton's iteration from m, 16 more than the first root.
 -- Assumes nothing.
 use Rattle.std.specs.Prelude.{◌≡◌, ◌⊎◌, ℕ, suc, ◌+◌, ◌-◌, ◌*◌, ◌/◌, ◌^◌, ◌≤◌, ◌<◌}
-use Rattle.std.proofs.Common.{sym, ap, subst, inl, inr, le_of_lt, le_of_suc-le-suc, lt_of_not-le, lt_irrefl, mul-le-mul, mul-le-mul_right, mul-le-mul_left, arith}
+use Rattle.std.proofs.Common.{ap, subst, inl, inr, le_of_lt, le_of_suc-le-suc, lt_of_not-le, lt_irrefl, mul-le-mul, mul-le-mul_right, mul-le-mul_left, arith}
 use Rattle.std.proofs.lemmas.Bool.{cases_lt}
 use Rattle.rounding.specs.FloorRoot.{sq_lt_back}
-use Rattle.first_roots.specs.FirstRoots.{IsFirstRoot, IsReciprocal}
+use Rattle.first_roots.specs.FirstRoots.{IsReciprocal}
 
 pub unless : {a b : ℕ} → ((b < a) → ⊥) → a ≤ b
 unless f = le_of_suc-le-suc (lt_of_not-le f)
@@ -32,21 +32,6 @@ pub record AroundRoot (n m : ℕ) : Type 0 where
   pub high : n < (m + 17) * (m + 17) * 2 ^ 32
   pub least : 16400 ≤ m
   pub most : m < 32784
-
-pub around_root : {n e : ℕ} → 2 ^ 60 ≤ n → n < 2 ^ 62 → IsFirstRoot (n / 2 ^ 52) e → AroundRoot n (e + 16)
-around_root {n} {e} L H f = go (n / 2 ^ 52) f (omega arith) (omega arith) (omega arith) (omega arith)
-  where
-    go : (k : ℕ) → IsFirstRoot k e → 256 ≤ k → k < 1024 → k * 2 ^ 52 ≤ n → n < (k + 1) * 2 ^ 52 → AroundRoot n (e + 16)
-    go k h l u a b =
-        let g : 16384 < e + 1 = sq_lt_back 16384 (e + 1) (omega (arith, h.next)) in
-        let s : e < 32768 = sq_lt_back e 32768 (omega (arith, h.square)) in
-        let back : e + 16 - 16 ≡ e = omega arith in
-        record {
-          low = subst (λ (x : ℕ). x * x * 2 ^ 32 ≤ n) (sym back) (omega (arith, h.square));
-          high = omega (arith, h.next);
-          least = omega arith;
-          most = omega arith;
-        }
 
 -- the number of m, a number near the root of n, and of c, the reciprocal of m
 abbrev pub above_root : ℕ → ℕ → ℕ → ℕ

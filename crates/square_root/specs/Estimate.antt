@@ -1,8 +1,9 @@
 -- The first estimate of a root, right to 20 digits, and its inverse. Assumes nothing.
-use Rattle.std.specs.Prelude.{ℕ, ◌+◌, ◌-◌, ◌*◌, ◌/◌, ◌^◌, ◌≤◌, ◌<◌}
-use Rattle.std.proofs.Common.{le_of_lt, lt_of_not-le, lt_irrefl, mul-le-mul, mul-le-mul_right, arith}
+use Rattle.std.specs.Prelude.{◌≡◌, ℕ, ◌+◌, ◌-◌, ◌*◌, ◌/◌, ◌^◌, ◌≤◌, ◌<◌}
+use Rattle.std.proofs.Common.{sym, subst, le_of_lt, lt_of_not-le, lt_irrefl, mul-le-mul, mul-le-mul_right, arith}
+use Rattle.rounding.specs.FloorRoot.{sq_lt_back}
 use Rattle.first_roots.specs.FirstRoots.{IsFirstRoot, IsReciprocal}
-use Rattle.square_root.specs.Above.{AroundRoot, Close, above_root, around_root, close, root_upper, root_lower}
+use Rattle.square_root.specs.Above.{AroundRoot, Close, above_root, close, root_upper, root_lower}
 use Rattle.square_root.specs.Inverse.{rest_of, product_most, inverse_most, inverse_least}
 
 -- in units of 2^7 `above` is more than the root of n, and 8 less is at most the root; `inverse` is at most 2^45 / above, and little below it
@@ -24,7 +25,19 @@ module _ {n e c : ℕ} (L : 2 ^ 60 ≤ n) (H : n < 2 ^ 62) (F : IsFirstRoot (n /
   rest = rest_of above c
 
   around : AroundRoot n (e + 16)
-  around = around_root L H F
+  around = go (n / 2 ^ 52) F (omega arith) (omega arith) (omega arith) (omega arith)
+    where
+      go : (k : ℕ) → IsFirstRoot k e → 256 ≤ k → k < 1024 → k * 2 ^ 52 ≤ n → n < (k + 1) * 2 ^ 52 → AroundRoot n (e + 16)
+      go k h l u a b =
+          let g : 16384 < e + 1 = sq_lt_back 16384 (e + 1) (omega (arith, h.next)) in
+          let s : e < 32768 = sq_lt_back e 32768 (omega (arith, h.square)) in
+          let back : e + 16 - 16 ≡ e = omega arith in
+          record {
+            low = subst (λ (x : ℕ). x * x * 2 ^ 32 ≤ n) (sym back) (omega (arith, h.square));
+            high = omega (arith, h.next);
+            least = omega arith;
+            most = omega arith;
+          }
 
   reciprocal_fits : c < 2 ^ 24
   reciprocal_fits = lt_of_not-le not

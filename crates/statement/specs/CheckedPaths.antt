@@ -256,7 +256,7 @@ divides =
             pairs = λ k h. (rules_kept (suc k) h).0;
             cuts = omega arith;
             jumps = λ h. omega arith;
-            all = omega arith;
+            points = omega arith;
             once = by_contour (λ c. (i : ℕ) → i < c.last → cuts_of (c.first + i) jumped_marks ≡ 1) (λ i h. only i (omega arith)) (λ i h. absurd (omega arith));
           };
       first_cuts = λ k h. (rules_kept (suc k) h).1;
@@ -282,7 +282,7 @@ divides_by_a_touch =
                 rw e (inr (inr (inr (refl, tt), record { landing = refl; fresh = (_, inr (inl refl), (omega arith, omega arith), refl) })));
             cuts = omega arith;
             jumps = λ h. omega arith;
-            all = omega arith;
+            points = omega arith;
             once = λ c m i h. absurd (no_segment c m i h);
           };
       first_cuts = λ k h e. let z : k ≡ 0 = omega arith in absurd (omega (arith, rw z at e));
@@ -376,7 +376,7 @@ pub lands_elsewhere :
 unfolding whole of_int ◌∣◌ along points_of pairs at kind_at reference_at eq
 lands_elsewhere d = false≢true (ap (λ (q : Point). eq q.x (whole 4)) (land _ _ _ _ _ d 0 1 (d.division.pairs 0 (omega arith))).landing)
 
--- `entered`: the second contour is not. Breaks `jumps` and `all` too.
+-- `entered`: the second contour is not. Breaks `jumps` and `points` too.
 pub enters_one : DividesByPoints contours_here points_here 3 (begun []) (begun_marks []) → ⊥
 unfolding contours_here begun_marks contours_from pairs entries_of count_marks enters is_of pick
 enters_one d = omega (arith, d.entered _ (inr (inl refl)))
@@ -394,7 +394,7 @@ blank_divides =
             pairs = λ k h. absurd (omega (arith, h));
             cuts = omega arith;
             jumps = λ h. absurd (omega (arith, h));
-            all = omega arith;
+            points = omega arith;
             once = λ c m i h. absurd m;
           };
       first_cuts = λ k h. absurd (omega (arith, h));

@@ -72,7 +72,7 @@ pub record Division {A : Type 0} (cs : List Contour) (x : ℕ → Point) (u v : 
   -- points as segments, back-steps and contours together, so that no pair is anything else
   pub cuts : marks_of cut_kind ms ≡ segments_of cs
   pub jumps : 1 ≤ length cs → marks_of jump_kind ms + marks_of touch_kind ms + 1 ≡ length cs
-  pub all : n ≡ segments_of cs + marks_of back_step_kind ms + length cs
+  pub points : n ≡ segments_of cs + marks_of back_step_kind ms + length cs
   -- each segment of each contour is cut exactly once
   pub once : (c : Contour) → Among c cs → (i : ℕ) → i < c.last → cuts_of (c.first + i) ms ≡ 1
 

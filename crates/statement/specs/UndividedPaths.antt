@@ -197,7 +197,7 @@ counts_as_jump = outcome twice (counted 2 0 0 1) ((0, 0) ∷ (0, 0) ∷ []) ((0,
 pub makes_up_s : Outcome
 makes_up_s = outcome wide (counted 6 3 2 1) rules_path rules_marks
 
--- `cuts`: segment 1 is left out. Breaks `all` and `once` too.
+-- `cuts`: segment 1 is left out. Breaks `points` and `once` too.
 pub leaves_a_segment : Outcome
 leaves_a_segment =
     outcome wide (counted 4 1 1 1)
@@ -214,14 +214,14 @@ jumps_beyond =
       marks = pairs ((0, 0) ∷ (1, 0) ∷ (1, 1) ∷ (2, 1) ∷ (2, 0) ∷ (3, 4) ∷ []);
     }
 
--- `jumps`: the second contour is left out. Breaks `all` too.
+-- `jumps`: the second contour is left out. Breaks `points` too.
 pub leaves_a_contour : Outcome
 leaves_a_contour =
     outcome wide (counted 3 2 0 0)
     ((0, 0) ∷ (25, 0) ∷ (50, 0) ∷ [])
     ((0, 0) ∷ (1, 0) ∷ (1, 1) ∷ [])
 
--- `all`: one pair more, of a kind that is not counted. Breaks `pairs` too.
+-- `points`: one pair more, of a kind that is not counted. Breaks `pairs` too.
 pub goes_on : Outcome
 goes_on =
     outcome wide (counted 7 2 2 1)
@@ -375,6 +375,6 @@ none_divides = (
         | inr (inr e) ↦ e
       ],
   λ d. omega (arith, d.division.jumps),
-  λ d. omega (arith, d.division.all),
+  λ d. omega (arith, d.division.points),
   λ d. omega (arith, d.division.once _ (inl refl) 1 (omega arith)),
 )

@@ -11,7 +11,7 @@ use Rattle.rules.specs.HandedOver.{Plate}
 use Rattle.rules.specs.Start.{Oriented}
 use Rattle.rules.specs.OrderAndStraight.{order, straight}
 use Rattle.plate_laws.specs.Lists.{All, all_give, all_map}
-use Rattle.plate_laws.specs.Accepted.{Accepted}
+use Rattle.plate_laws.specs.AcceptedInput.{Accepted}
 use Rattle.packed_contours.specs.PackedNumbers.{packed_sense, number_in, first_in}
 use Rattle.packed_contours.specs.UnpackedNumbers.{sense_is, Unpacked, order_unpacked}
 use Rattle.straight.specs.Runs.{run, run_of, runs, Readable}

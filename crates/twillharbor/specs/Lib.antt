@@ -1,4 +1,4 @@
 pub mod Arguments
 pub mod Refusals
-pub mod Retraced
-pub mod Telling
+pub mod RetraceStruct
+pub mod StructAnswers

@@ -8,7 +8,7 @@ use Rattle.rules.specs.Start.{Oriented, start}
 use Rattle.rules.specs.Calls.{distance_call, start_or, start_call, order_call, straight_call, retrace_call}
 use Rattle.rules.specs.declared.Point.{Point}
 use Rattle.plate_laws.specs.Rows.{Other, Lacks, rows_append, rows_lack}
-use Rattle.plate_laws.specs.Accepted.{input_lacks}
+use Rattle.plate_laws.specs.AcceptedInput.{input_lacks}
 use Rattle.file_format.specs.PlateFile.{count_in, coordinates_in, block_damaged, too_many_path_points, goes_on, followed, read_from, read_file, odd_path, write_rows, write_call, read_into, read_call}
 
 -- ---- the calls

@@ -9,7 +9,7 @@ ghost use Rattle.contour_recovery.specs.ContourRecovery.{recovery_call};
 ghost use Rattle.file_format.specs.PlateFile.{write_call, read_call};
 ghost use Rattle.results.specs.Results.{distance_result, start_result, order_result, straight_result, check_result, write_result, read_result, contours_result};
 ghost use Rattle.twillharbor.specs.Arguments.{point_of, strategy_of};
-ghost use Rattle.twillharbor.specs.Retraced.{Retraced};
+ghost use Rattle.twillharbor.specs.RetraceStruct.{Retraced};
 
 use order::order_call;
 use path_check::check_path;
@@ -183,9 +183,9 @@ pub extern "C" fn twillharbor_straight_home(
     straight_result(straight_call(&home, path, work))
 }
 
-// `Retraced` (specs/Retraced.antt): answer and slices are those of the rules. Where the number is 0 and a contour holds a point, what was written divides as
-// the path statement (statement/specs/PathStatement.antt) says; where it is 0, the layers never fall along it. In all that was written, with number 0 or 6, the
-// landings are near (statement/specs/HowNear.antt).
+// `Retraced` (specs/RetraceStruct.antt): answer and slices are those of the rules. Where the number is 0 and a contour holds a point, what was written divides
+// as the path statement (statement/specs/PathStatement.antt) says; where it is 0, the layers never fall along it. In all that was written, with number 0 or 6,
+// the landings are near (statement/specs/HowNear.antt).
 #[unsafe(no_mangle)]
 pub extern "C" fn twillharbor_retrace(
     points: &[f64],

@@ -3,7 +3,7 @@ use Rattle.std.proofs.Common.{ap, ◌∙◌, ◌/◌, length}
 use Rattle.rules.specs.GridAndNearest.{nearest}
 use Rattle.rules.specs.SamplesAndCache.{ask_path}
 use Rattle.rules.specs.declared.Point.{Point}
-use Rattle.plate_laws.specs.Accepted.{point_on}
+use Rattle.plate_laws.specs.AcceptedInput.{point_on}
 use Rattle.history.specs.History.{points}
 use Rattle.caches.proofs.ask.Goals as goal
 

@@ -1,6 +1,6 @@
 -- The contour that is chosen enters and is settled; the path is the rules' where nobody waits, and where it is full.
 use native.Mathlib.Omega.{arith}
-use Rattle.plate_laws.specs.Waiting.{update_caching}
+use Rattle.plate_laws.specs.WaitingContours.{update_caching}
 use Rattle.history.specs.CutPath.{points_cut}
 use Rattle.caches.specs.CutPath.{querying_cut}
 use Rattle.path_points.specs.WriterCalls.{long}

@@ -3,7 +3,7 @@ use Rattle.std.proofs.Common.{◌≡◌, ◌≢◌, ℕ, add-zero, arith}
 use Rattle.std.proofs.lemmas.Bool.{ne_eqb}
 use Rattle.rules.specs.Tools.{pick}
 use Rattle.rules.specs.declared.Totals.{Totals}
-use Rattle.length_laws.specs.Adding.{added}
+use Rattle.length_laws.specs.RunningTotals.{added}
 use Rattle.measure.proofs.add.Goals as goal
 
 -- the start's kind, or none

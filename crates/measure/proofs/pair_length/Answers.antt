@@ -1,7 +1,7 @@
 -- The distance times 1,024 is exact, and cut to a whole number it is the length.
 use Rattle.std.proofs.Common.{◌∙◌}
 use Rattle.std.specs.Float.Ieee.{of_bits}
-use Rattle.length_laws.specs.Truncated.{length_is}
+use Rattle.length_laws.specs.WholePart.{length_is}
 use Rattle.measure.proofs.pair_length.Goals as goal
 
 pub returns : goal.returns

@@ -1,6 +1,6 @@
 -- The totals of one path point after the other.
 use Rattle.std.proofs.Common.{◌≡◌, suc, ◌/◌, ◌≤◌, length, sym, ◌∙◌, add-one, arith}
-use Rattle.length_laws.specs.Adding.{so_far_within}
+use Rattle.length_laws.specs.RunningTotals.{so_far_within}
 use Rattle.measure.proofs.TotalsByPoint.{none_is, short, within_more, totals_start, totals_step, totals_end}
 use Rattle.measure.proofs.totals.Goals as goal
 

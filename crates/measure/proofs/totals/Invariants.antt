@@ -1,6 +1,6 @@
 -- What the first k + 1 path points come to, and the lengths of the first k pairs, which are kept.
 use Rattle.std.proofs.Common.{◌≡◌, suc}
-use Rattle.length_laws.specs.Adding.{so_far}
+use Rattle.length_laws.specs.RunningTotals.{so_far}
 use Rattle.measure.specs.LengthsKept.{LengthsKept}
 use Rattle.measure.proofs.totals.Given as goal
 

@@ -5,7 +5,7 @@ use Rattle.rules.specs.HandedOver.{plate, plate_of, number_of, place_of, refusal
 use Rattle.rules.specs.OrderAndStraight.{order, entries}
 use Rattle.rules.specs.Calls.{order_call}
 use Rattle.rules.specs.declared.Input.{Input}
-use Rattle.plate_laws.specs.Accepted.{input_gives}
+use Rattle.plate_laws.specs.AcceptedInput.{input_gives}
 use Rattle.slices.specs.Outcome.{met_refused, met_short, met_full, met_whole}
 use Rattle.packed_contours.specs.PackedNumbers.{packed_sense}
 use Rattle.order.proofs.Entries.{EntriesInOrder, count_few, entries_first, entries_length}

@@ -22,8 +22,8 @@ loop-i-preserved c =
     let l = c.loop-i in
     let a = c.args in
     let packed = c.from-packed.ensures in
-    let sense = c.from.ensures ∙ sense_told c.from-packed.result.reversed ∙ ap (λ (b : Bool). pick b 1 0) packed.2 in (
+    let sense = c.from.ensures ∙ sense_told c.from-packed.result.reversed ∙ ap (λ (b : Bool). pick b 1 0) packed.reversed in (
       simp length-set (omega arith),
-      rw (packed.0, sense) (ap (λ (o : List ℕ). slice_set (slice_set o (2 * l.i) (number_in (get_or a.words.now l.i 0))) (2 * l.i + 1) (told_sense (get_or a.words.now l.i 0))) l.invariant.1)
+      rw (packed.number, sense) (ap (λ (o : List ℕ). slice_set (slice_set o (2 * l.i) (number_in (get_or a.words.now l.i 0))) (2 * l.i + 1) (told_sense (get_or a.words.now l.i 0))) l.invariant.1)
           ∙ sym (pairs_store number_in told_sense 0 a.words.now a.order.now l.i (omega arith) (omega arith)),
     )

@@ -3,7 +3,7 @@ use Rattle.std.proofs.Common.{◌≡◌, ◌<◌, List, sym, ap, subst, ◌∙�
 use Rattle.rules.specs.Tools.{sum}
 use Rattle.rules.specs.HandedOver.{Contour, contours_of}
 use Rattle.plate_laws.specs.Lists.{All}
-use Rattle.plate_laws.specs.Ordering.{few_contours}
+use Rattle.plate_laws.specs.OrderTotals.{few_contours}
 use Rattle.contours.specs.ContourOf.{contour_of}
 use Rattle.contours.specs.ContoursLeft.{contours_left, WithinCounts, all_within}
 use Rattle.packed_contours.proofs.ListedContours.{Listed, begun, n_few, whole, store}

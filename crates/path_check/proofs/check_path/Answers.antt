@@ -3,7 +3,7 @@ use Rattle.std.proofs.Common.{◌≡◌, List, ℕ, Float, ◌+◌, ◌*◌, ◌
 use Rattle.std.proofs.lemmas.Result.{err_from_is_err_and}
 use Rattle.rules.specs.Tools.{sum}
 use Rattle.rules.specs.HandedOver.{number_of, place_of, refusal, contours_of, gives, refused_by, contour_rows, answer_of}
-use Rattle.plate_laws.specs.Accepted.{contours_gives}
+use Rattle.plate_laws.specs.AcceptedInput.{contours_gives}
 use Rattle.plate_laws.specs.Rows.{Passed, rows_give}
 use Rattle.slices.specs.Outcome.{work_same}
 use Rattle.path_check.specs.Outcome.{unsound, odd_path, other_marks, short_work, divided, divided_frees}

@@ -7,7 +7,7 @@ use Rattle.rules.specs.HandedOver.{RefusalRow, plate, plate_of, plate_limit, pla
 use Rattle.rules.specs.declared.Input.{Input}
 use Rattle.plate_laws.specs.Lists.{all_append}
 use Rattle.plate_laws.specs.Rows.{Passed, rows_pass}
-use Rattle.plate_laws.specs.Accepted.{input_gives}
+use Rattle.plate_laws.specs.AcceptedInput.{input_gives}
 use Rattle.plate.specs.Answer.{count_rows}
 use Rattle.plate.specs.PassedCounts.{rows_counted}
 use Rattle.plate.proofs.RowAnswers.{passed, refuses_among}

@@ -10,11 +10,14 @@ pub returns-in_err-points : goal.returns-in_err-points
 unfolding answer_of refusal
 returns-in_err-points c =
     let p = err_from_is_err_and c.from_residual.result c.from_residual.ensures.1 in
-    rw (p.1, p.2) (read_refused c.args.file.now c.args.path.now _ _ (sym c.in_err-points.ensures))
+    let o = read_refused c.args.file.now c.args.path.now _ _ (sym c.in_err-points.ensures) in
+    rw (p.1, p.2) (record { answer = o.0; path = o.1 })
 
 pub returns-then-path-numbers : goal.returns-then-path-numbers
 unfolding answer_of refusal number_of place_of
-returns-then-path-numbers c = read_full c.args.file.now c.args.path.now _ (sym c.in_ok-points.ensures) c.if-path-numbers.true
+returns-then-path-numbers c =
+    let o = read_full c.args.file.now c.args.path.now _ (sym c.in_ok-points.ensures) c.if-path-numbers.true in
+    record { answer = o.0; path = o.1 }
 
 pub copy_blocks-requires-clause-reads : goal.copy_blocks-requires-clause-reads
 unfolding answer_of
@@ -32,4 +35,4 @@ returns c =
     let reads = sym c.in_ok-points.ensures in
     let o = read_whole file path points reads c.if-path-numbers.false in
     let n = points_read file points reads in
-    (o.0, rw (c.copy_blocks.ensures, ← n) o.1)
+    record { answer = o.0; path = rw (c.copy_blocks.ensures, ← n) o.1 }

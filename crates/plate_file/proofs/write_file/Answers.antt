@@ -9,7 +9,7 @@ use Rattle.rules.specs.declared.Refusal.{Refusal}
 use Rattle.plate_laws.specs.Rows.{refused, not_given, rows_give}
 use Rattle.plate_laws.specs.Lists.{all_give}
 use Rattle.plate_laws.specs.FiniteDistances.{OnPlate}
-use Rattle.plate_laws.specs.Accepted.{first_off_lem}
+use Rattle.plate_laws.specs.AcceptedInput.{first_off_lem}
 use Rattle.little_endian.specs.Numbers.{NoNan}
 use Rattle.file_format.specs.PlateFile.{write_file}
 use Rattle.file_laws.specs.Lengths.{file_length}
@@ -34,11 +34,15 @@ on_by xs h = ltb-false _ _ (rows_give (off_the_plate xs ∷ []) (gives tt) tt (s
 
 pub returns-then-points-gt-MOST_PATH_POINTS : goal.returns-then-points-gt-MOST_PATH_POINTS
 unfolding answer_of refusal number_of place_of
-returns-then-points-gt-MOST_PATH_POINTS c = write_many c.args.path.now c.args.file.now c.if-points-gt-MOST_PATH_POINTS.true
+returns-then-points-gt-MOST_PATH_POINTS c =
+    let o = write_many c.args.path.now c.args.file.now c.if-points-gt-MOST_PATH_POINTS.true in
+    record { answer = o.0; file = o.1 }
 
 pub returns-then-path-ne0 : goal.returns-then-path-ne0
 unfolding answer_of refusal number_of place_of
-returns-then-path-ne0 c = write_odd c.args.path.now c.args.file.now c.if-points-gt-MOST_PATH_POINTS.false c.if-path-ne0.true
+returns-then-path-ne0 c =
+    let o = write_odd c.args.path.now c.args.file.now c.if-points-gt-MOST_PATH_POINTS.false c.if-path-ne0.true in
+    record { answer = o.0; file = o.1 }
 
 pub returns-in_err-check_range : goal.returns-in_err-check_range
 unfolding answer_of off_the_plate plate_limit of_bits
@@ -48,14 +52,16 @@ returns-in_err-check_range c =
     let w =
     write_off c.args.path.now c.args.file.now c.if-points-gt-MOST_PATH_POINTS.false (omega (arith, c.if-path-ne0.false)) place
     in
-    rw (p.1, p.2) (told ∙ w.0, w.1)
+    rw (p.1, p.2) (record { answer = told ∙ w.0; file = w.1 })
 
 pub returns-then-file-bytes : goal.returns-then-file-bytes
 unfolding answer_of refusal number_of place_of off_the_plate plate_limit of_bits
 returns-then-file-bytes c =
     let xs = c.args.path.now in
+    let o =
     write_full xs c.args.file.now c.if-points-gt-MOST_PATH_POINTS.false (omega (arith, c.if-path-ne0.false))
-    (on_by xs c.in_ok-check_range.ensures) (omega (arith, c.if-file-bytes.true, file_length xs))
+    (on_by xs c.in_ok-check_range.ensures) (omega (arith, c.if-file-bytes.true, file_length xs)) in
+    record { answer = o.0; file = o.1 }
 
 pub write_blocks-requires-clause-numbers : goal.write_blocks-requires-clause-numbers
 unfolding answer_of off_the_plate plate_limit of_bits
@@ -74,4 +80,4 @@ returns c =
     (write_passed xs file c.if-points-gt-MOST_PATH_POINTS.false (omega (arith, c.if-path-ne0.false)) (on_by xs c.in_ok-check_range.ensures)
     (omega (arith, c.if-file-bytes.false, l))) in
     let e : 512 * (length xs / 2 / 31 + 1) ≡ length (write_file xs) = omega (arith, l) in
-    (rw e (sym o.0), c.write_blocks.ensures ∙ sym o.1)
+    record { answer = rw e (sym o.0); file = c.write_blocks.ensures ∙ sym o.1 }

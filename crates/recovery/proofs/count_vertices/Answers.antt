@@ -2,8 +2,8 @@
 use Rattle.std.proofs.Common.{length, refl, arith}
 use Rattle.contour_recovery.specs.ContourRecovery.{recovery_answer, landed}
 use Rattle.recovery.specs.VertexPlaces.{count_none}
-use Rattle.recovery_laws.specs.Landed.{count_small}
-use Rattle.recovery_laws.specs.Failing.{first_pass}
+use Rattle.recovery_laws.specs.LandedVertices.{count_small}
+use Rattle.recovery_laws.specs.FirstFailing.{first_pass}
 use Rattle.recovery.specs.Rows.{missing}
 use Rattle.recovery.proofs.count_vertices.Goals as goal
 

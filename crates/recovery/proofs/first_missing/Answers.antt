@@ -1,6 +1,6 @@
 -- Vertex v was landed on, or it is the first that was not.
 use Rattle.std.proofs.Common.{◌≡◌, sym, ◌∙◌, arith}
-use Rattle.recovery_laws.specs.Failing.{pass_none, pass_more, first_found, none_found}
+use Rattle.recovery_laws.specs.FirstFailing.{pass_none, pass_more, first_found, none_found}
 use Rattle.recovery.proofs.first_missing.Goals as goal
 
 pub loop-v-init : goal.loop-v-init

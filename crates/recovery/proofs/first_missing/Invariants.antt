@@ -1,7 +1,7 @@
 -- The vertices before v were landed on.
 use Rattle.std.proofs.Common.{Bool, ℕ}
 use Rattle.landings.specs.LandedBefore.{LandedBefore}
-use Rattle.recovery_laws.specs.Failing.{PassBefore}
+use Rattle.recovery_laws.specs.FirstFailing.{PassBefore}
 use Rattle.recovery.proofs.first_missing.Given as goal
 
 abbrev pub invariant-loop-v : goal.invariant-loop-v

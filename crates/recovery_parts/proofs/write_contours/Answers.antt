@@ -1,7 +1,7 @@
 -- Refusal 6, or all is written.
 use Rattle.std.proofs.Common.{ℕ, List, refl, ◌∙◌, ap, length, arith}
 use Rattle.rules.specs.HandedOver.{written, over}
-use Rattle.contour_recovery.specs.ContourRecovery.{is_cut, recovery_answer, recovered_lengths}
+use Rattle.contour_recovery.specs.ContourRecovery.{is_segment_cut, recovery_answer, recovered_lengths}
 use Rattle.recovery_laws.specs.Runs.{runs_most}
 use Rattle.recovery_parts.specs.Outcome.{flagged_recovered, roomy, points_full, lengths_full, all_fit}
 use Rattle.recovery_parts.proofs.write_contours.Goals as goal
@@ -31,7 +31,7 @@ overflow_cast-result-2 c =
     let m = length a.flags.now in
     let runs = flagged_recovered a.marks.now c.flag_cuts.new.flags m c.flag_cuts.ensures.same c.flag_cuts.ensures.flags in
     let counted = c.count_contours-contours.ensures ∙ ap length runs in
-    omega (arith, counted, c.requires.most, runs_most (is_cut a.marks.now) 0 m)
+    omega (arith, counted, c.requires.most, runs_most (is_segment_cut a.marks.now) 0 m)
 
 pub returns : goal.returns
 unfolding roomy recovery_answer written

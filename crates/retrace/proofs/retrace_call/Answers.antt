@@ -9,7 +9,7 @@ use Rattle.std.proofs.lemmas.Result.{err_from_is_err_and}
 use Rattle.rules.specs.Tools.{sum}
 use Rattle.rules.specs.HandedOver.{plate, plate_of, gives, number_of, place_of, refusal, refused_by, plate_rows, retrace_work, answer_of, retrace_room}
 use Rattle.rules.specs.Retrace.{retrace}
-use Rattle.plate_laws.specs.Accepted.{Accepted, input_gives}
+use Rattle.plate_laws.specs.AcceptedInput.{Accepted, input_gives}
 use Rattle.plate_laws.specs.Start.{AllTakePart, layered_part}
 use Rattle.path_points.specs.Wrote.{Wrote}
 use Rattle.joining.specs.JoinState.{path_count}

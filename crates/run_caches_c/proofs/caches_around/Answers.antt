@@ -3,7 +3,7 @@ use Rattle.std.proofs.Common.{◌*◌, ◌≤◌, length, arith}
 use Rattle.rules.specs.SamplesAndCache.{waiting, seed}
 use Rattle.plate_laws.specs.Lists.{all_take}
 use Rattle.plate_laws.specs.FiniteDistances.{OnPlate}
-use Rattle.plate_laws.specs.Waiting.{seed_caching}
+use Rattle.plate_laws.specs.WaitingContours.{seed_caching}
 use Rattle.history.specs.History.{points}
 use Rattle.history.specs.CutPath.{count_cut, points_cut, ready_cut}
 use Rattle.run_caches_c.specs.Stages.{Stage}

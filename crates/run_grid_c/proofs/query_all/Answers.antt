@@ -1,7 +1,7 @@
 -- `run_grid_c::query_all`: what a query asks for, and one more answer is written.
 use Rattle.std.proofs.Common.{ap, ◌∙◌, ◌/◌, arith, length}
 use Rattle.rules.specs.SamplesAndCache.{ask_path}
-use Rattle.plate_laws.specs.Accepted.{point_on}
+use Rattle.plate_laws.specs.AcceptedInput.{point_on}
 use Rattle.run_grid_c.specs.Results.{place_number, squared_number}
 use Rattle.run_grid_c.proofs.AnswerRange.{answer_below}
 use Rattle.run_grid_c.proofs.WriteLoop.{writing_start, writing_next}

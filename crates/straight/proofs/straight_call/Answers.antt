@@ -6,9 +6,9 @@ use Rattle.rules.specs.Marks.{coordinates}
 use Rattle.rules.specs.OrderAndStraight.{order, straight}
 use Rattle.rules.specs.Calls.{straight_call}
 use Rattle.rules.specs.declared.Input.{Input}
-use Rattle.plate_laws.specs.Accepted.{input_gives}
+use Rattle.plate_laws.specs.AcceptedInput.{input_gives}
 use Rattle.plate_laws.specs.Start.{layered_part}
-use Rattle.plate_laws.specs.Ordering.{straight_length}
+use Rattle.plate_laws.specs.OrderTotals.{straight_length}
 use Rattle.plate_laws.specs.Slices.{coordinates_length}
 use Rattle.slices.specs.Outcome.{met_refused, met_short, met_full, met_whole}
 use Rattle.slices.specs.Over.{over_rest}

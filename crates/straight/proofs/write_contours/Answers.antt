@@ -3,7 +3,7 @@ use Rattle.std.proofs.Common.{◌≡◌, List, ℕ, ◌/◌, Float, length, take
 use Rattle.std.proofs.Math.Seq.{take_all}
 use Rattle.rules.specs.HandedOver.{over}
 use Rattle.rules.specs.Marks.{coordinates}
-use Rattle.plate_laws.specs.Ordering.{run_length}
+use Rattle.plate_laws.specs.OrderTotals.{run_length}
 use Rattle.slices.specs.Pairs.{coordinates_take}
 use Rattle.straight.specs.Runs.{run, run_of, runs}
 use Rattle.straight.proofs.PathSoFar.{drawn_none, drawn_more, runs_next}
@@ -24,7 +24,7 @@ loop-word-preserved c =
     let f = c.from-packed.ensures in
     let packed = c.from-packed.result in
     let size = get_or ns packed.number 0 in
-    let drawn : run_of ns w ≡ run packed.reversed packed.first.0 size = rw (f.0, f.1, f.2) refl in
+    let drawn : run_of ns w ≡ run packed.reversed packed.first.0 size = rw (f.number, f.first, f.reversed) refl in
     rw (runs_next ns ws l.word-index c.loop-word-test.true, drawn)
     (drawn_more c.args.points.now (runs ns (take l.word-index ws)) c.args.path.now l.path l.count l.invariant
     (run packed.reversed packed.first.0 size) c.write-count.result c.write-count.new.part (rw (run_length packed.reversed packed.first.0 size) e.count) e.written)

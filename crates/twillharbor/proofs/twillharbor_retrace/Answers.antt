@@ -2,7 +2,7 @@
 use Rattle.std.proofs.Common.{sym, subst}
 use Rattle.plate_laws.specs.Rows.{Other}
 use Rattle.twillharbor.specs.Refusals.{retrace_other}
-use Rattle.twillharbor.specs.Telling.{told}
+use Rattle.twillharbor.specs.StructAnswers.{told}
 use Rattle.twillharbor.proofs.twillharbor_retrace.Goals as goal
 
 pub retrace_result-requires : goal.retrace_result-requires

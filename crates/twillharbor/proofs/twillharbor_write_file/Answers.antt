@@ -5,4 +5,4 @@ use Rattle.twillharbor.specs.Refusals.{write_other}
 use Rattle.twillharbor.proofs.twillharbor_write_file.Goals as goal
 
 pub write_result-requires : goal.write_result-requires
-write_result-requires c = subst (Other 12) (sym c.write_file.ensures.0) (write_other _ _)
+write_result-requires c = subst (Other 12) (sym c.write_file.ensures.answer) (write_other _ _)

@@ -3,7 +3,7 @@ use Rattle.std.proofs.Common.{◌+◌, ◌*◌, List, Float, refl, sym, ap, ap�
 use Rattle.rules.specs.HandedOver.{at, over}
 use Rattle.rules.specs.Marks.{coordinates}
 use Rattle.rules.specs.declared.Point.{Point}
-use Rattle.plate_laws.specs.Ordering.{run_length}
+use Rattle.plate_laws.specs.OrderTotals.{run_length}
 use Rattle.slices.specs.Pairs.{coordinates_store}
 use Rattle.straight.specs.Runs.{run}
 use Rattle.straight.proofs.RunVertices.{run_below}

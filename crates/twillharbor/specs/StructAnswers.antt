@@ -12,7 +12,7 @@ use Rattle.rules.specs.declared.Refusal.{Refusal}
 use Rattle.retrace.specs.RetracePromise.{RetracePromise}
 use Rattle.results.specs.Results.{retrace_result, totals_of, written_of}
 use Rattle.results.specs.Refusals.{above_zero}
-use Rattle.twillharbor.specs.Retraced.{Retraced}
+use Rattle.twillharbor.specs.RetraceStruct.{Retraced}
 use Rattle.results.specs.declared.RetraceResult.{RetraceResult}
 
 -- with the number 0 it carries the answer's totals

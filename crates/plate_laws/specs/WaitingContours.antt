@@ -129,21 +129,21 @@ update_caching p g path cells =
 
 -- ---- the contours of those that wait
 
-abbrev pub contour_of : Waiting → Contour
-contour_of w = w.contour
+abbrev pub contour_waiting : Waiting → Contour
+contour_waiting w = w.contour
 
-pub contours_waiting : (p : Plate) (g : SpatialGrid) (cs : List Contour) → map contour_of (map (waiting p g) cs) ≡ cs
+pub contours_waiting : (p : Plate) (g : SpatialGrid) (cs : List Contour) → map contour_waiting (map (waiting p g) cs) ≡ cs
 unfolding waiting
 contours_waiting p g [] = refl
 contours_waiting p g (c ∷ cs) = ap (λ (ds : List Contour). c ∷ ds) (contours_waiting p g cs)
 
-pub contours_without : (n : ℕ) (ws : List Waiting) → map contour_of (without waiting_number n ws) ≡ without contour_number n (map contour_of ws)
+pub contours_without : (n : ℕ) (ws : List Waiting) → map contour_waiting (without waiting_number n ws) ≡ without contour_number n (map contour_waiting ws)
 unfolding waiting_number contour_number
-contours_without n ws = map_without contour_of contour_number n ws
+contours_without n ws = map_without contour_waiting contour_number n ws
 
 -- a change of the caches leaves the contours
 module _ (f : Waiting → Waiting) (h : Caching f) where
-  pub contours_cached : (ws : List Waiting) → map contour_of (map f ws) ≡ map contour_of ws
+  pub contours_cached : (ws : List Waiting) → map contour_waiting (map f ws) ≡ map contour_waiting ws
   contours_cached [] = refl
   contours_cached (w ∷ ws) = rw (h.contour w, contours_cached ws)
 

@@ -4,6 +4,7 @@ use Rattle.std.proofs.Common.{inl, inr, subst, ◌∙◌, arith, eqb-true, eq-eq
 use Rattle.std.proofs.Math.Bool.{and-true, or-true}
 use Rattle.std.specs.Float.Ieee.Bits.{is_true}
 use Rattle.std.proofs.Math.Decide.{dec_le}
+use Rattle.rules.specs.Limits.{highest_vertex, most_points}
 use Rattle.rules.specs.Tools.{pick, any, up_from, first_failing}
 use Rattle.rules.specs.Marks.{cut_kind, back_step_kind, touch_kind, kind_at, enters}
 use Rattle.division_laws.specs.Rules.{first_failing_lem}
@@ -117,10 +118,10 @@ module _ (ms vs : List ℕ) where
       go false h d below c = landed_more n v ∙ rw (below (omega (arith, c))) refl
 
   -- there are few, where no vertex is above 65,535
-  pub count_small : (n : ℕ) → ((j : ℕ) → j < n → get_or vs j 0 ≤ 65535) → vertex_count ms vs n ≤ 65536
+  pub count_small : (n : ℕ) → ((j : ℕ) → j < n → get_or vs j 0 ≤ highest_vertex) → vertex_count ms vs n ≤ most_points
   count_small n h = go (vertex_count ms vs n) refl
     where
-      go : (k : ℕ) → vertex_count ms vs n ≡ k → k ≤ 65536
+      go : (k : ℕ) → vertex_count ms vs n ≡ k → k ≤ most_points
       go zero e = omega arith
       go (suc u) e = let (j, l, t) = landed_at u n (count_landed u n e) in omega (arith, lands_there j u t, h j l)
 

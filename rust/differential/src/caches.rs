@@ -172,20 +172,16 @@ fn by_cell(grid: &door::Grid, samples: &[Vec<(usize, Point)>]) -> Vec<Vec<(usize
 
 #[cfg(test)]
 mod tests {
-    use harness::random::Random;
-
     use super::{KINDS, case};
+    use crate::run::assert_every_kind_agrees;
 
     #[test]
     fn every_kind_agrees_and_updates_replace() {
-        let mut random = Random::new(1);
         let mut replaced = 0;
-        for (kind, name) in KINDS {
-            for _ in 0..30 {
-                let case = case(kind, &mut random);
-                replaced += u32::from(case.unwrap_or_else(|e| panic!("{name}: {e}")));
-            }
-        }
+        assert_every_kind_agrees(&KINDS, 30, |kind, random| {
+            replaced += u32::from(case(kind, random)?);
+            Ok(())
+        });
         assert!(replaced > 60, "only {replaced} updates replaced a cache");
     }
 }

@@ -43,17 +43,11 @@ fn case(kind: Kind, random: &mut Random) -> Result<(), String> {
 
 #[cfg(test)]
 mod tests {
-    use harness::random::Random;
-
     use super::{KINDS, case};
+    use crate::run::assert_every_kind_agrees;
 
     #[test]
     fn every_kind_agrees() {
-        let mut random = Random::new(1);
-        for (kind, name) in KINDS {
-            for _ in 0..2_000 {
-                case(kind, &mut random).unwrap_or_else(|e| panic!("{name}: {e}"));
-            }
-        }
+        assert_every_kind_agrees(&KINDS, 2_000, case);
     }
 }

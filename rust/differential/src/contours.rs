@@ -8,22 +8,22 @@
 
 use harness::random::Random;
 use twillharbor::StartPointStrategy::{self, Home, Inside, Outside};
-use twillharbor::{
-    Plate, Recovered, Refusal, c, check_path, contours, contours_into, retrace_work,
-};
+use twillharbor::{Recovered, Refusal, c, check_path, contours, contours_into};
 
-use crate::damaged_marks::{DAMAGES, THIRDS, damaged};
-use crate::decoder::{Broken, Due, Fault, HIGHEST_VERTEX, Marked, Picture, RULES, Room, WORK};
+use crate::damaged_marks::{DAMAGES, Damage, THIRDS, damaged};
+use crate::decoder::{Broken, Due, Fault, HIGHEST_VERTEX, Marked, Picture, Room, Rule, WORK};
+use crate::floats::hexadecimal;
 use crate::layers::in_seeded_layers;
-use crate::lent::Lent;
-use crate::other_paths::{other_path, plain_path};
-use crate::parked;
+use crate::lent_slices::{self, Lent};
+use crate::marked_paths::{self, Feature, features, landings};
+use crate::other_paths::drawn_otherwise;
+use crate::parked_points;
 use crate::plates;
-use crate::retrace_plates::{KINDS, Kind, LARGE, large_plate, plate};
-use crate::rule::retrace::{BACK_STEP, CUT, JUMP, START, TOUCH};
+use crate::retrace_plates::{KINDS, Kind, plate, run_large};
+use crate::rule::retrace::{BACK_STEP, CUT};
 use crate::run::{self, Plan};
 use crate::small_marks;
-use crate::tally::{Tally, is_met};
+use crate::tally::{Cases, Listed, Tally, is_met};
 
 /// How many damaged copies of each path there are.
 const COPIES: usize = 8;
@@ -33,8 +33,6 @@ const CHUNK: u64 = 256;
 const ROOM: usize = 3_000;
 /// The retrace call has no longer paths.
 const LONGEST: usize = 1_048_576;
-/// On plates of more points other paths are plain ones.
-const MOST_POINTS: usize = 150;
 /// The check call takes no more contours.
 const MOST_CONTOURS: usize = 4_096;
 
@@ -63,100 +61,94 @@ enum Case {
     Blank,
     SkippedContours,
     OtherOrder,
-    EnteredBetween,
-    Touched,
-    Jumped,
-    SteppedBack,
-    SteppedBackOverBackStep,
-    OtherZero,
+    Has(Feature),
     LongerRoom,
     Harmless,
     OtherContours,
     OtherVertex,
 }
 
-const CASES: [(Case, &str); 32] = [
-    (Case::OddPath, "3: half a path point"),
-    (Case::MarksMiscounted, "3: marks not as long as the path"),
-    (Case::OffThePlate, "4: off the plate"),
-    (Case::WorkShort, "5: work short"),
-    (Case::Inconsistent, "10: marks inconsistent"),
-    (Case::Missing, "11: vertex missing"),
-    (Case::PointsShort, "6: points too short"),
-    (Case::LengthsShort, "6: lengths too short"),
-    (Case::Recovered, "contours"),
-    (Case::OddPathAndOff, "3, where a coordinate is off the plate too"),
-    (Case::OffAndWorkShort, "4, where work is short too"),
-    (Case::WorkShortAndInconsistent, "5, where marks are inconsistent too"),
-    (Case::InconsistentAndShort, "10, where points and lengths have no room"),
-    (Case::MissingAndShort, "11, where points and lengths have no room"),
-    (Case::OffAtANan, "4: at a NaN"),
-    (Case::MissingBelowTheHighest, "11: below vertex 65,535"),
-    (Case::Retraced, "contours: of a path of the retrace call"),
-    (Case::RetracedHome, "contours: of one with a parked point"),
-    (Case::RetracedInLayers, "contours: of one in layers"),
-    (Case::Blank, "contours: none, of no path point"),
-    (Case::SkippedContours, "contours: of a plate with empty ones"),
-    (Case::OtherOrder, "contours: in another order than the path enters them"),
-    (Case::EnteredBetween, "contours: one is entered between its ends"),
-    (Case::Touched, "contours: with a touch"),
-    (Case::Jumped, "contours: with a jump"),
-    (Case::SteppedBack, "contours: with a back-step"),
-    (Case::SteppedBackOverBackStep, "contours: with a back-step over a back-step"),
-    (Case::OtherZero, "contours: with a touch of 0 and -0"),
-    (Case::LongerRoom, "contours: slices longer than is needed"),
-    (Case::Harmless, "contours: those of the path that was damaged"),
-    (Case::OtherContours, "contours: others than those of the path that was damaged"),
-    (Case::OtherVertex, "10: though the path draws a plate"),
-];
+impl Listed for Case {
+    const LIST: &'static [(Self, &'static str)] = &[
+        (Self::OddPath, "3: half a path point"),
+        (Self::MarksMiscounted, "3: marks not as long as the path"),
+        (Self::OffThePlate, "4: off the plate"),
+        (Self::WorkShort, "5: work short"),
+        (Self::Inconsistent, "10: marks inconsistent"),
+        (Self::Missing, "11: vertex missing"),
+        (Self::PointsShort, "6: points too short"),
+        (Self::LengthsShort, "6: lengths too short"),
+        (Self::Recovered, "contours"),
+        (Self::OddPathAndOff, "3, where a coordinate is off the plate too"),
+        (Self::OffAndWorkShort, "4, where work is short too"),
+        (Self::WorkShortAndInconsistent, "5, where marks are inconsistent too"),
+        (Self::InconsistentAndShort, "10, where points and lengths have no room"),
+        (Self::MissingAndShort, "11, where points and lengths have no room"),
+        (Self::OffAtANan, "4: at a NaN"),
+        (Self::MissingBelowTheHighest, "11: below vertex 65,535"),
+        (Self::Retraced, "contours: of a path of the retrace call"),
+        (Self::RetracedHome, "contours: of one with a parked point"),
+        (Self::RetracedInLayers, "contours: of one in layers"),
+        (Self::Blank, "contours: none, of no path point"),
+        (Self::SkippedContours, "contours: of a plate with empty ones"),
+        (Self::OtherOrder, "contours: in another order than the path enters them"),
+        (Self::Has(Feature::EnteredBetween), "contours: one is entered between its ends"),
+        (Self::Has(Feature::Touched), "contours: with a touch"),
+        (Self::Has(Feature::Jumped), "contours: with a jump"),
+        (Self::Has(Feature::SteppedBack), "contours: with a back-step"),
+        (
+            Self::Has(Feature::SteppedBackOverBackStep),
+            "contours: with a back-step over a back-step",
+        ),
+        (Self::Has(Feature::OtherZero), "contours: with a touch of 0 and -0"),
+        (Self::LongerRoom, "contours: slices longer than is needed"),
+        (Self::Harmless, "contours: those of the path that was damaged"),
+        (Self::OtherContours, "contours: others than those of the path that was damaged"),
+        (Self::OtherVertex, "10: though the path draws a plate"),
+    ];
+}
 
 /// A run of as many plates meets every case.
 const ENOUGH: u64 = 4_000;
 
 #[derive(Debug, Default)]
 struct Met {
-    cases: Tally<{ CASES.len() }>,
-    rules: Tally<{ RULES.len() }>,
-    damages: Tally<{ DAMAGES.len() }>,
+    cases: Cases<Case>,
+    rules: Cases<Rule>,
+    damages: Cases<Damage>,
     /// Where marks are inconsistent.
     thirds: Tally<{ THIRDS.len() }>,
 }
 
 impl Met {
-    fn count_if(&self, holds: bool, case: Case) {
-        if holds {
-            self.cases.count(case as usize);
-        }
-    }
-
     fn due(&self, marked: &Marked, room: Room, due: &Due) {
         let no_room = room.points == 0 && room.lengths == 0;
         let work_short = room.work < WORK * marked.count();
         match due {
             Due::OddPath => {
                 let off = marked.path.iter().any(|c| c.abs() > plates::LIMIT);
-                self.count_if(off, Case::OddPathAndOff);
-                self.count_if(true, Case::OddPath);
+                self.cases.count_if(off, Case::OddPathAndOff);
+                self.cases.count(Case::OddPath);
             }
-            Due::MarksMiscounted => self.count_if(true, Case::MarksMiscounted),
+            Due::MarksMiscounted => self.cases.count(Case::MarksMiscounted),
             Due::OffThePlate(place) => {
-                self.count_if(true, Case::OffThePlate);
-                self.count_if(work_short, Case::OffAndWorkShort);
-                self.count_if(marked.path[*place].is_nan(), Case::OffAtANan);
+                self.cases.count(Case::OffThePlate);
+                self.cases.count_if(work_short, Case::OffAndWorkShort);
+                self.cases.count_if(marked.path[*place].is_nan(), Case::OffAtANan);
             }
             Due::WorkShort => {
                 let faulty = matches!(marked.contours(), Err(Fault::Inconsistent(_)));
-                self.count_if(faulty, Case::WorkShortAndInconsistent);
-                self.count_if(true, Case::WorkShort);
+                self.cases.count_if(faulty, Case::WorkShortAndInconsistent);
+                self.cases.count(Case::WorkShort);
             }
             Due::Inconsistent(Broken { rule, place }) => {
-                self.count_if(true, Case::Inconsistent);
-                self.count_if(no_room, Case::InconsistentAndShort);
-                self.rules.count(*rule as usize);
+                self.cases.count(Case::Inconsistent);
+                self.cases.count_if(no_room, Case::InconsistentAndShort);
+                self.rules.count(*rule);
                 self.thirds.count(THIRDS.len() * place / marked.count());
             }
             Due::Missing(_) => {
-                self.count_if(no_room, Case::MissingAndShort);
+                self.cases.count_if(no_room, Case::MissingAndShort);
                 self.missing(marked);
             }
             Due::Full => self.full(marked, room),
@@ -165,64 +157,44 @@ impl Met {
     }
 
     fn missing(&self, marked: &Marked) {
-        self.count_if(true, Case::Missing);
+        self.cases.count(Case::Missing);
         let lands = |&[kind, vertex]: &[u32; 2]| {
             kind != CUT && kind != BACK_STEP && vertex == HIGHEST_VERTEX
         };
         let (marks, _) = marked.marks.as_chunks();
-        self.count_if(marks.iter().any(lands), Case::MissingBelowTheHighest);
+        self.cases.count_if(marks.iter().any(lands), Case::MissingBelowTheHighest);
     }
 
     fn full(&self, marked: &Marked, room: Room) {
         let enough = Room { work: room.work, ..marked.enough() };
         let due = marked.due(enough);
         let picture = due.picture().expect("nothing else was wrong");
-        self.count_if(room.points < picture.points.len(), Case::PointsShort);
-        self.count_if(room.lengths < picture.lengths.len(), Case::LengthsShort);
+        self.cases.count_if(room.points < picture.points.len(), Case::PointsShort);
+        self.cases.count_if(room.lengths < picture.lengths.len(), Case::LengthsShort);
     }
 
     /// What a path that has contours has.
     fn recovered(&self, marked: &Marked, room: Room, picture: &Picture) {
         let (marks, _) = marked.marks.as_chunks();
-        let (path, _) = marked.path.as_chunks();
-        let has = |kind| marks.iter().any(|&[of, _]| of == kind);
-        self.count_if(true, Case::Recovered);
-        self.count_if(marks.is_empty(), Case::Blank);
-        self.count_if(has(TOUCH), Case::Touched);
-        self.count_if(has(JUMP), Case::Jumped);
-        self.count_if(has(BACK_STEP), Case::SteppedBack);
-        let twice =
-            |&[kind, k]: &[u32; 2]| kind == BACK_STEP && marks[k as usize + 1][0] == BACK_STEP;
-        self.count_if(marks.iter().any(twice), Case::SteppedBackOverBackStep);
-        let other_zero = |place: usize| {
-            let [a, b]: [[f64; 2]; 2] = [path[place - 1], path[place]];
-            marks[place][0] == TOUCH && a.map(f64::to_bits) != b.map(f64::to_bits)
-        };
-        self.count_if((1..marks.len()).any(other_zero), Case::OtherZero);
-        let longer = room.points > picture.points.len() && room.lengths > picture.lengths.len();
-        self.count_if(longer && room.work > WORK * marks.len(), Case::LongerRoom);
-        let landings = marks.iter().filter(|&&[kind, _]| matches!(kind, START | JUMP | TOUCH));
-        let landings: Vec<u32> = landings.map(|&[_, vertex]| vertex).collect();
-        self.count_if(!landings.is_sorted(), Case::OtherOrder);
-        let mut ends = vec![false; picture.points.len() / 2];
-        let mut first = 0;
-        for length in picture.lengths.iter().map(|&length| length as usize) {
-            (ends[first], ends[first + length - 1]) = (true, true);
-            first += length;
+        self.cases.count(Case::Recovered);
+        self.cases.count_if(marks.is_empty(), Case::Blank);
+        for feature in features(&marked.path, &marked.marks, &picture.lengths) {
+            self.cases.count(Case::Has(feature));
         }
-        let between = landings.iter().any(|&vertex| !ends[vertex as usize]);
-        self.count_if(between, Case::EnteredBetween);
+        let longer = room.points > picture.points.len() && room.lengths > picture.lengths.len();
+        self.cases.count_if(longer && room.work > WORK * marks.len(), Case::LongerRoom);
+        self.cases.count_if(!landings(marks).is_sorted(), Case::OtherOrder);
     }
 
     fn print(&self, plates: u64) -> bool {
-        self.cases.print(CASES.map(|(_, name)| name));
+        self.cases.print();
         println!("10, by the rule that is broken first:");
-        self.rules.print(RULES.map(|(_, name)| name));
+        self.rules.print();
         println!("10, by where that is:");
         self.thirds.print(THIRDS);
         println!("copies, by what is done to them:");
-        self.damages.print(DAMAGES.map(|(_, name)| name));
-        let numbers = self.cases.numbers().into_iter().chain(self.rules.numbers());
+        self.damages.print();
+        let numbers = self.cases.numbers().chain(self.rules.numbers());
         let numbers = numbers.chain(self.thirds.numbers()).chain(self.damages.numbers());
         is_met(plates, ENOUGH, numbers)
     }
@@ -232,23 +204,14 @@ impl Met {
 pub fn run(plan: Plan) -> bool {
     println!("contours: {} plates, seed {}", plan.pairs, plan.seed);
     let met = Met::default();
-    let same = run::run_in_chunks(plan, CHUNK, &KINDS, |kind, random| {
-        let seed = random.bits();
-        let number = run::number_of(&kind, &KINDS);
-        compare(kind, seed, &met).map_err(|e| {
-            format!("{e}\n  again: differential contours-plate --kind {number} --seed {seed}")
-        })
+    let same = run::run_seeded(plan, CHUNK, &KINDS, "contours-plate", |kind, seed| {
+        compare(kind, seed, &met)
     });
     if !same {
         return false;
     }
-    let of_kinds = plan.pairs;
-    let plan = Plan { pairs: LARGE.len() as u64, ..plan };
-    println!("large plates: {}, seed {}", plan.pairs, plan.seed);
-    let same = run::run_in_chunks(plan, 1, &LARGE, |large, random| {
-        compare_large(&large_plate(large, random), &met, random)
-    });
-    let is_met = met.print(of_kinds);
+    let same = run_large(plan, |_, plate, random| compare_large(plate, &met, random));
+    let is_met = met.print(plan.pairs);
     same && small_marks::run(plan) && is_met
 }
 
@@ -261,15 +224,16 @@ pub fn run_one(kind: u64, seed: u64) -> Result<bool, String> {
 fn compare(kind: Kind, seed: u64, met: &Met) -> Result<(), String> {
     let random = &mut Random::new(seed);
     let plate = in_seeded_layers(plate(kind, random), seed);
-    let other = drawn_otherwise(&plate, random);
-    let parked = Home(parked::on_the_plate(&plate, &mut parked::seeded(seed)));
+    // Vertices of this are where their bits are, and may have other numbers than the marks say.
+    let other = Marked::from(drawn_otherwise(&plate, random));
+    let parked = Home(parked_points::on_the_plate(&plate, &mut parked_points::seeded(seed)));
     let strategy = random.pick(&[Outside, Inside, parked]);
     if let Some(marked) = retraced(&plate, strategy, ROOM, met)? {
         given_back(&plate, &marked, met)?;
         several(&marked, met, random)?;
     }
     let drawn = other.contours();
-    met.count_if(matches!(drawn, Err(Fault::Inconsistent(_))), Case::OtherVertex);
+    met.cases.count_if(matches!(drawn, Err(Fault::Inconsistent(_))), Case::OtherVertex);
     several(&other, met, random)
 }
 
@@ -314,44 +278,27 @@ fn several(marked: &Marked, met: &Met, random: &mut Random) -> Result<(), String
     wrapped(marked, exact)
 }
 
-/// The path of the retrace call, unless it is longer than there is room.
+/// The path of the retrace call, unless it has more points than that.
 fn retraced(
     plate: &plates::Plate,
     strategy: StartPointStrategy,
-    room: usize,
+    most: usize,
     met: &Met,
 ) -> Result<Option<Marked>, String> {
-    let (points, lengths) = (&plate.points, &plate.lengths);
-    let (mut path, mut marks) = (vec![0.0; 2 * room], vec![0; 2 * room]);
-    let mut work = vec![0; retrace_work(room, points.len() / 2, lengths.len())];
-    let mut distances = vec![0.0; lengths.len()];
-    let outcome = Plate::with_layers(points, lengths, &plate.layers).retrace_into(
-        plate.size,
-        strategy,
-        &mut path,
-        &mut marks,
-        &mut work,
-        &mut distances,
-    );
-    match outcome {
-        Ok(totals) => {
-            path.truncate(2 * totals.counts.points);
-            marks.truncate(2 * totals.counts.points);
-            met.count_if(matches!(strategy, Home(_)), Case::RetracedHome);
-            met.count_if(plate.one_layer().is_none(), Case::RetracedInLayers);
-            Ok(Some(Marked { path, marks }))
-        }
-        Err(Refusal::Full { .. }) => Ok(None),
-        Err(refusal) => Err(format!("retrace of a sound plate: {refusal}")),
+    let marked = marked_paths::retraced(plate, strategy, most)?;
+    if marked.is_some() {
+        met.cases.count_if(matches!(strategy, Home(_)), Case::RetracedHome);
+        met.cases.count_if(plate.one_layer().is_none(), Case::RetracedInLayers);
     }
+    Ok(marked)
 }
 
 /// A path of the retrace call has the plate's contours that are not empty.
 fn given_back(plate: &plates::Plate, marked: &Marked, met: &Met) -> Result<(), String> {
     let held = plate.lengths.iter().copied().filter(|&length| length > 0);
     let due = Picture { points: plate.points.clone(), lengths: held.collect() };
-    met.count_if(true, Case::Retraced);
-    met.count_if(due.lengths.len() < plate.lengths.len(), Case::SkippedContours);
+    met.cases.count(Case::Retraced);
+    met.cases.count_if(due.lengths.len() < plate.lengths.len(), Case::SkippedContours);
     match marked.contours() {
         Ok(is) if same(&is, &due) => Ok(()),
         other => Err(described(
@@ -366,34 +313,23 @@ fn same(one: &Picture, other: &Picture) -> bool {
     bits(one) == bits(other) && one.lengths == other.lengths
 }
 
-/// Vertices of these are where their bits are, and may have other numbers than the marks say.
-fn drawn_otherwise(plate: &plates::Plate, random: &mut Random) -> Marked {
-    let (points, lengths) = (&plate.points, &plate.lengths);
-    let handed = if points.len() / 2 > MOST_POINTS {
-        plain_path(points, lengths, random)
-    } else {
-        other_path(points, lengths, random)
-    };
-    Marked { path: handed.path, marks: handed.marks }
-}
-
 /// One damage, or two.
 fn damaged_copy(marked: &Marked, met: &Met, random: &mut Random) -> Result<(), String> {
     let mut copy = marked.clone();
     let mut is_altered = false;
     for _ in 0..random.pick(&[1, 1, 2]) {
-        let number = random.below(DAMAGES.len() as u64) as usize;
+        let (damage, _) = random.pick(&DAMAGES);
         let third = random.below(THIRDS.len() as u64) as usize;
-        if let Some(altered) = damaged(&copy, DAMAGES[number].0, third, random) {
+        if let Some(altered) = damaged(&copy, damage, third, random) {
             copy = altered;
             is_altered = true;
-            met.damages.count(number);
+            met.damages.count(damage);
         }
     }
     let [is, was] = [&copy, marked].map(|marked| marked.due(marked.enough()));
     if let (true, Some(is), Some(was)) = (is_altered, is.picture(), was.picture()) {
-        met.count_if(same(is, was), Case::Harmless);
-        met.count_if(!same(is, was), Case::OtherContours);
+        met.cases.count_if(same(is, was), Case::Harmless);
+        met.cases.count_if(!same(is, was), Case::OtherContours);
     }
     let room = some_room(&copy, random);
     check(&copy, room, met, random)?;
@@ -441,19 +377,14 @@ fn check(marked: &Marked, room: Room, met: &Met, random: &mut Random) -> Result<
     }
     let none = Picture::default();
     let written = due.picture().unwrap_or(&none);
-    let altered = [
+    lent_slices::hold([
         ("path", path.altered()),
         ("marks", marks.altered()),
         ("points", points.difference_from(&written.points)),
         ("lengths", lengths.difference_from(&written.lengths)),
-        ("work", if due.frees_work() { work.margins_altered() } else { work.altered() }),
-    ];
-    for (slice, wrong) in altered {
-        if let Some(wrong) = wrong {
-            return Err(described(marked, &format!("{name}: of the {slice}, {wrong}")));
-        }
-    }
-    Ok(())
+        ("work", work.altered_unless(due.frees_work())),
+    ])
+    .map_err(|wrong| described(marked, &format!("{name}: {wrong}")))
 }
 
 /// The check call accepts a path that has contours as one that draws these.
@@ -510,8 +441,7 @@ fn is_due(
 pub fn described(marked: &Marked, text: &str) -> String {
     let Marked { path, marks } = marked;
     if path.len() <= 256 && marks.len() <= 256 {
-        let path: String = path.iter().map(|c| format!(" {:016x}", c.to_bits())).collect();
-        format!("{text}\n  marks {marks:?}\n  path{path}")
+        format!("{text}\n  marks {marks:?}\n  path{}", hexadecimal(path))
     } else {
         let counts = [path.len(), marks.len()];
         format!("{text}\n  path and marks of {counts:?} numbers")
@@ -520,28 +450,14 @@ pub fn described(marked: &Marked, text: &str) -> String {
 
 #[cfg(test)]
 mod tests {
-    use harness::random::Random;
-
-    use super::{CASES, Case, Met, compare};
+    use super::{Case, Met, compare};
     use crate::retrace_plates::KINDS;
+    use crate::run::assert_every_kind_agrees;
 
     #[test]
     fn every_kind_agrees() {
-        let mut random = Random::new(1);
         let met = Met::default();
-        for (kind, name) in KINDS {
-            for _ in 0..10 {
-                compare(kind, random.bits(), &met).unwrap_or_else(|e| panic!("{name}: {e}"));
-            }
-        }
-        let numbers = met.cases.numbers();
-        assert!(numbers[Case::Recovered as usize] > 500, "{numbers:?}");
-    }
-
-    #[test]
-    fn the_cases_stand_in_their_order() {
-        for (place, (case, _)) in CASES.into_iter().enumerate() {
-            assert_eq!(case as usize, place);
-        }
+        assert_every_kind_agrees(&KINDS, 10, |kind, random| compare(kind, random.bits(), &met));
+        assert!(met.cases.number(Case::Recovered) > 500, "{met:?}");
     }
 }

@@ -5,6 +5,7 @@ use harness::random::Random;
 
 use crate::floats::{signed, with_exponent};
 use crate::plate_file::{BLOCK, Block, CHECKED, HEAD, LIMIT, PLACES, count, set_checks};
+use crate::tally::Listed;
 
 #[derive(Debug, Clone, Copy, PartialEq, Eq)]
 pub enum Kind {
@@ -131,6 +132,10 @@ pub const DAMAGES: [(Damage, &str); 21] = [
     (Damage::Dropped, "a block dropped"),
     (Damage::Renumbered, "blocks dropped or twice, then numbered, checks right"),
 ];
+
+impl Listed for Damage {
+    const LIST: &'static [(Self, &'static str)] = &DAMAGES;
+}
 
 /// A damaged copy. It may be that nothing was there to be damaged.
 pub fn damaged(file: &[u8], damage: Damage, random: &mut Random) -> Vec<u8> {
@@ -268,7 +273,7 @@ mod tests {
     use harness::random::Random;
 
     use super::{DAMAGES, Damage, damaged, off, path, special};
-    use crate::plate_file::{WRONGS, file_of, is_off, path_of};
+    use crate::plate_file::{file_of, is_off, path_of};
 
     #[test]
     fn coordinates_lie_where_they_should() {
@@ -276,16 +281,6 @@ mod tests {
         for _ in 0..10_000 {
             assert!(!is_off(special(&mut random)));
             assert!(is_off(off(&mut random)));
-        }
-    }
-
-    #[test]
-    fn the_lists_stand_in_their_order() {
-        for (place, (damage, _)) in DAMAGES.into_iter().enumerate() {
-            assert_eq!(damage as usize, place);
-        }
-        for (place, (wrong, _)) in WRONGS.into_iter().enumerate() {
-            assert_eq!(wrong as usize, place);
         }
     }
 

@@ -7,6 +7,7 @@ use crate::floats::nudged;
 use crate::other_paths::miscount;
 use crate::plates;
 use crate::rule::retrace::{BACK_STEP, CUT, JUMP, TOUCH};
+use crate::tally::Listed;
 
 /// What is done to a path with marks.
 #[derive(Debug, Clone, Copy, PartialEq, Eq)]
@@ -63,6 +64,10 @@ pub const DAMAGES: [(Damage, &str); 24] = [
     (Damage::CutShort, "the path ends early"),
     (Damage::Miscounted, "path or marks slice is longer or shorter"),
 ];
+
+impl Listed for Damage {
+    const LIST: &'static [(Self, &'static str)] = &DAMAGES;
+}
 
 /// Where a path is damaged.
 pub const THIRDS: [&str; 3] = ["early", "in the middle", "late"];

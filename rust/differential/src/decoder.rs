@@ -5,6 +5,7 @@ use std::collections::{BTreeMap, BTreeSet};
 
 use crate::plates::LIMIT;
 use crate::rule::retrace::{BACK_STEP, CUT, JUMP, START, TOUCH};
+use crate::tally::Listed;
 
 /// No vertex is above this.
 pub const HIGHEST_VERTEX: u32 = 65_535;
@@ -52,21 +53,23 @@ pub enum Rule {
     BackStepHasItsBits,
 }
 
-pub const RULES: [(Rule, &str); 13] = [
-    (Rule::KindsAreThese, "a mark's kind is 0, 1, 2, 3 or 4"),
-    (Rule::StartComesFirst, "the first mark is a start"),
-    (Rule::StartComesOnce, "no other mark is a start"),
-    (Rule::LandingIsAVertex, "a landing names a vertex of at most 65,535"),
-    (Rule::LandingIsAnew, "a landing is on a vertex not landed on before"),
-    (Rule::JumpsDiffer, "a jump's pair is not equal as numbers"),
-    (Rule::TouchesAreEqual, "a touch's pair is equal as numbers"),
-    (Rule::CutIsASegment, "a cut's segment ends at a vertex of at most 65,535"),
-    (Rule::CutLeavesAnEnd, "a cut leaves one end of its segment"),
-    (Rule::CutLandsAnew, "a cut lands on a vertex not landed on before"),
-    (Rule::BackStepIsEarlier, "a back-step's k + 1 is an earlier path point"),
-    (Rule::BackStepLeavesItsEnd, "a back-step leaves the vertex of path point k + 1"),
-    (Rule::BackStepHasItsBits, "a back-step has path point k's bits"),
-];
+impl Listed for Rule {
+    const LIST: &'static [(Self, &'static str)] = &[
+        (Self::KindsAreThese, "a mark's kind is 0, 1, 2, 3 or 4"),
+        (Self::StartComesFirst, "the first mark is a start"),
+        (Self::StartComesOnce, "no other mark is a start"),
+        (Self::LandingIsAVertex, "a landing names a vertex of at most 65,535"),
+        (Self::LandingIsAnew, "a landing is on a vertex not landed on before"),
+        (Self::JumpsDiffer, "a jump's pair is not equal as numbers"),
+        (Self::TouchesAreEqual, "a touch's pair is equal as numbers"),
+        (Self::CutIsASegment, "a cut's segment ends at a vertex of at most 65,535"),
+        (Self::CutLeavesAnEnd, "a cut leaves one end of its segment"),
+        (Self::CutLandsAnew, "a cut lands on a vertex not landed on before"),
+        (Self::BackStepIsEarlier, "a back-step's k + 1 is an earlier path point"),
+        (Self::BackStepLeavesItsEnd, "a back-step leaves the vertex of path point k + 1"),
+        (Self::BackStepHasItsBits, "a back-step has path point k's bits"),
+    ];
+}
 
 /// The rule that a path breaks first, and the path point at which it does.
 #[derive(Debug, Clone, Copy, PartialEq, Eq)]
@@ -280,7 +283,7 @@ impl<'a> Walk<'a> {
 
 #[cfg(test)]
 mod tests {
-    use super::{Broken, Due, Fault, Marked, Picture, RULES, Room, Rule};
+    use super::{Broken, Due, Fault, Marked, Picture, Room, Rule};
 
     /// Document 01's plate E, its path and marks: (0,0)(4,0)(8,0) | (0,1).
     fn e() -> Marked {
@@ -406,12 +409,5 @@ mod tests {
         path.path.push(0.0);
         assert_eq!(path.due(none), Due::OddPath);
         assert!(!path.due(none).frees_work());
-    }
-
-    #[test]
-    fn the_rules_stand_in_their_order() {
-        for (place, (rule, _)) in RULES.into_iter().enumerate() {
-            assert_eq!(rule as usize, place);
-        }
     }
 }

@@ -5,9 +5,9 @@ use std::fmt;
 use mujou_reference::types as reference;
 use twillharbor::{Point, distance};
 
-use crate::handed::numbers;
-use crate::pairs::{DAMAGES, KINDS, Pair, damaged, pair};
-use crate::run::{self, Plan};
+use crate::pairs::{self, KINDS, Pair, described, pair};
+use crate::plate_case::numbers;
+use crate::run::Plan;
 
 /// What a distance call answers.
 #[derive(Debug, Clone, Copy, PartialEq, Eq)]
@@ -30,12 +30,7 @@ impl fmt::Display for Answer {
 /// Compares the plan's pairs, then damaged ones, one for each sixteen of them.
 pub fn run(plan: Plan) -> bool {
     println!("distances: {} pairs, seed {}", plan.pairs, plan.seed);
-    if !run::run(plan, &KINDS, |kind, random| compare(pair(kind, random))) {
-        return false;
-    }
-    let plan = Plan { pairs: plan.pairs.div_ceil(16), ..plan };
-    println!("refusals: {} pairs, seed {}", plan.pairs, plan.seed);
-    run::run(plan, &DAMAGES, |damage, random| compare(damaged(damage, random)))
+    pairs::run(plan, &KINDS, pair, compare)
 }
 
 fn compare(pair: Pair) -> Result<(), String> {
@@ -43,10 +38,7 @@ fn compare(pair: Pair) -> Result<(), String> {
     if library == expected {
         return Ok(());
     }
-    let [ax, ay, bx, by] = pair.map(f64::to_bits);
-    Err(format!(
-        "a {ax:016x} {ay:016x} b {bx:016x} {by:016x}: library {library}, reference {expected}"
-    ))
+    Err(described(pair, &format!("library {library}, reference {expected}")))
 }
 
 /// The proved library's answer.

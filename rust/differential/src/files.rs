@@ -5,20 +5,19 @@
 //! Every call is lent slices between margins of random bits. All bits are compared afterwards: a
 //! refusal alters nothing, and a result nothing beyond itself.
 
-use std::sync::atomic::{AtomicUsize, Ordering};
-
 use harness::random::Random;
 use twillharbor::{Point, Refusal, c};
 
-use crate::damaged_files::{DAMAGES, KINDS, Kind, damaged, path, sound};
+use crate::damaged_files::{DAMAGES, Damage, KINDS, Kind, damaged, path, sound};
+use crate::floats::hexadecimal;
 use crate::large_files;
-use crate::lent::{Difference, Lent};
+use crate::lent_slices::{self, Difference, Lent};
 use crate::plate_file::{
     BLOCK, CHECKED, Faults, HEAD, MOST_POINTS, PLACES, Refused, WRONGS, Wrong, count, file_of,
     is_off, read, set_checks, write,
 };
 use crate::run::{self, Plan};
-use crate::tally::{Tally, is_met};
+use crate::tally::{Cases, Listed, is_met};
 
 /// How many damaged copies of each file are read.
 const COPIES: usize = 24;
@@ -70,98 +69,95 @@ enum Case {
     DamagedAtTheMost,
 }
 
-const CASES: [(Case, &str); 40] = [
-    (Case::NoPoint, "written: no point"),
-    (Case::OnePoint, "written: one point"),
-    (Case::OneBlock, "written: 30 points"),
-    (Case::EmptyLastBlock, "written: full blocks and an empty one"),
-    (Case::SeveralBlocks, "written: three blocks and more"),
-    (Case::MinusZero, "written: with -0"),
-    (Case::Subnormal, "written: with a subnormal number"),
-    (Case::AtTheLimit, "written: with 1,000,000 or -1,000,000"),
-    (Case::WriteExact, "written: just enough room"),
-    (Case::WriteOneLonger, "written: room for a byte more"),
-    (Case::WriteTooMany, "2 of the writer"),
-    (Case::WriteOdd, "3"),
-    (Case::WriteOddAndOff, "3: a coordinate is off the plate too"),
-    (Case::WriteNan, "4: a NaN"),
-    (Case::WriteInfinite, "4: an infinity"),
-    (Case::WriteNextAbove, "4: the number next above 1,000,000, or its negative"),
-    (Case::WriteOffAndShort, "4: there is no room either"),
-    (Case::WriteOneShort, "6 of the writer: a byte short"),
-    (Case::WriteNoRoom, "6 of the writer: an empty slice"),
-    (Case::ReadNone, "read: no point"),
-    (Case::ReadExact, "read: just enough room"),
-    (Case::ReadOneLonger, "read: room for a number more"),
-    (Case::ReadDamaged, "read: another path, by a damage whose checks are right"),
-    (Case::ReadOneShort, "6 of the reader: a number short"),
-    (Case::ReadOneShortOfFull, "6 of the reader: a number short of full blocks"),
-    (Case::EmptyFile, "9: an empty file"),
-    (Case::EndsInFirstBlock, "9: ends in its first block"),
-    (Case::EndsInLaterBlock, "9: ends in a later block"),
-    (Case::EndsAtBorder, "9: ends where a block does"),
-    (Case::GoesOnByBytes, "9: goes on by less than a block"),
-    (Case::GoesOnByBlocks, "9: goes on by a block or more"),
-    (Case::DamagedFirst, "8: block 0"),
-    (Case::DamagedLater, "8: a later block"),
-    (Case::DamagedAndShort, "8: the file ends early too"),
-    (Case::DamagedAndGoesOn, "8: a closing block after which the file goes on"),
-    (Case::UnusedMinusZero, "8: nothing is wrong but -0 in an unused place"),
-    (Case::GoesOnAndFull, "9: there is no room either"),
-    (Case::TooMany, "2 of the reader"),
-    (Case::TooManyAndGoesOn, "2 of the reader: the file goes on after its closing block too"),
-    (Case::DamagedAtTheMost, "8: the block that can pass 1,048,576 points"),
-];
+impl Listed for Case {
+    const LIST: &'static [(Self, &'static str)] = &[
+        (Self::NoPoint, "written: no point"),
+        (Self::OnePoint, "written: one point"),
+        (Self::OneBlock, "written: 30 points"),
+        (Self::EmptyLastBlock, "written: full blocks and an empty one"),
+        (Self::SeveralBlocks, "written: three blocks and more"),
+        (Self::MinusZero, "written: with -0"),
+        (Self::Subnormal, "written: with a subnormal number"),
+        (Self::AtTheLimit, "written: with 1,000,000 or -1,000,000"),
+        (Self::WriteExact, "written: just enough room"),
+        (Self::WriteOneLonger, "written: room for a byte more"),
+        (Self::WriteTooMany, "2 of the writer"),
+        (Self::WriteOdd, "3"),
+        (Self::WriteOddAndOff, "3: a coordinate is off the plate too"),
+        (Self::WriteNan, "4: a NaN"),
+        (Self::WriteInfinite, "4: an infinity"),
+        (Self::WriteNextAbove, "4: the number next above 1,000,000, or its negative"),
+        (Self::WriteOffAndShort, "4: there is no room either"),
+        (Self::WriteOneShort, "6 of the writer: a byte short"),
+        (Self::WriteNoRoom, "6 of the writer: an empty slice"),
+        (Self::ReadNone, "read: no point"),
+        (Self::ReadExact, "read: just enough room"),
+        (Self::ReadOneLonger, "read: room for a number more"),
+        (Self::ReadDamaged, "read: another path, by a damage whose checks are right"),
+        (Self::ReadOneShort, "6 of the reader: a number short"),
+        (Self::ReadOneShortOfFull, "6 of the reader: a number short of full blocks"),
+        (Self::EmptyFile, "9: an empty file"),
+        (Self::EndsInFirstBlock, "9: ends in its first block"),
+        (Self::EndsInLaterBlock, "9: ends in a later block"),
+        (Self::EndsAtBorder, "9: ends where a block does"),
+        (Self::GoesOnByBytes, "9: goes on by less than a block"),
+        (Self::GoesOnByBlocks, "9: goes on by a block or more"),
+        (Self::DamagedFirst, "8: block 0"),
+        (Self::DamagedLater, "8: a later block"),
+        (Self::DamagedAndShort, "8: the file ends early too"),
+        (Self::DamagedAndGoesOn, "8: a closing block after which the file goes on"),
+        (Self::UnusedMinusZero, "8: nothing is wrong but -0 in an unused place"),
+        (Self::GoesOnAndFull, "9: there is no room either"),
+        (Self::TooMany, "2 of the reader"),
+        (Self::TooManyAndGoesOn, "2 of the reader: the file goes on after its closing block too"),
+        (Self::DamagedAtTheMost, "8: the block that can pass 1,048,576 points"),
+    ];
+}
 
 /// A run of as many files meets every case.
 const ENOUGH: u64 = 2_000;
 
 #[derive(Debug, Default)]
 pub struct Met {
-    cases: Tally<{ CASES.len() }>,
-    alone: Tally<{ WRONGS.len() }>,
-    damages: Tally<{ DAMAGES.len() }>,
+    cases: Cases<Case>,
+    alone: Cases<Wrong>,
+    damages: Cases<Damage>,
 }
 
 impl Met {
-    fn count_if(&self, holds: bool, case: Case) {
-        if holds {
-            self.cases.count(case as usize);
-        }
-    }
-
     fn written(&self, path: &[f64], room: usize, due: &Result<Vec<u8>, Refused>) {
         let has = |is: fn(f64) -> bool| path.iter().any(|&c| is(c));
         match *due {
             Ok(ref file) => {
                 let points = path.len() / 2;
-                self.count_if(points == 0, Case::NoPoint);
-                self.count_if(points == 1, Case::OnePoint);
-                self.count_if(points == PLACES - 1, Case::OneBlock);
-                self.count_if(points > 0 && points.is_multiple_of(PLACES), Case::EmptyLastBlock);
-                self.count_if(points >= 2 * PLACES, Case::SeveralBlocks);
-                self.count_if(has(|c| c == 0.0 && c.is_sign_negative()), Case::MinusZero);
-                self.count_if(has(f64::is_subnormal), Case::Subnormal);
-                self.count_if(has(|c| c.abs() == 1e6), Case::AtTheLimit);
-                self.count_if(room == file.len(), Case::WriteExact);
-                self.count_if(room == file.len() + 1, Case::WriteOneLonger);
+                self.cases.count_if(points == 0, Case::NoPoint);
+                self.cases.count_if(points == 1, Case::OnePoint);
+                self.cases.count_if(points == PLACES - 1, Case::OneBlock);
+                self.cases
+                    .count_if(points > 0 && points.is_multiple_of(PLACES), Case::EmptyLastBlock);
+                self.cases.count_if(points >= 2 * PLACES, Case::SeveralBlocks);
+                self.cases.count_if(has(|c| c == 0.0 && c.is_sign_negative()), Case::MinusZero);
+                self.cases.count_if(has(f64::is_subnormal), Case::Subnormal);
+                self.cases.count_if(has(|c| c.abs() == 1e6), Case::AtTheLimit);
+                self.cases.count_if(room == file.len(), Case::WriteExact);
+                self.cases.count_if(room == file.len() + 1, Case::WriteOneLonger);
             }
-            Err(Refused::TooManyPoints) => self.count_if(true, Case::WriteTooMany),
+            Err(Refused::TooManyPoints) => self.cases.count(Case::WriteTooMany),
             Err(Refused::Miscounted) => {
-                self.count_if(true, Case::WriteOdd);
-                self.count_if(has(is_off), Case::WriteOddAndOff);
+                self.cases.count(Case::WriteOdd);
+                self.cases.count_if(has(is_off), Case::WriteOddAndOff);
             }
             Err(Refused::OffThePlate { place }) => {
                 let c = path[place];
-                self.count_if(c.is_nan(), Case::WriteNan);
-                self.count_if(c.is_infinite(), Case::WriteInfinite);
-                self.count_if(c.abs() == 1e6_f64.next_up(), Case::WriteNextAbove);
-                self.count_if(room < BLOCK, Case::WriteOffAndShort);
+                self.cases.count_if(c.is_nan(), Case::WriteNan);
+                self.cases.count_if(c.is_infinite(), Case::WriteInfinite);
+                self.cases.count_if(c.abs() == 1e6_f64.next_up(), Case::WriteNextAbove);
+                self.cases.count_if(room < BLOCK, Case::WriteOffAndShort);
             }
             Err(_) => {
                 let blocks = path.len() / (2 * PLACES) + 1;
-                self.count_if(room + 1 == BLOCK * blocks, Case::WriteOneShort);
-                self.count_if(room == 0, Case::WriteNoRoom);
+                self.cases.count_if(room + 1 == BLOCK * blocks, Case::WriteOneShort);
+                self.cases.count_if(room == 0, Case::WriteNoRoom);
             }
         }
     }
@@ -169,60 +165,61 @@ impl Met {
     fn read(&self, file: &[u8], room: usize, due: &Result<Vec<f64>, Refused>) {
         match *due {
             Ok(ref path) => {
-                self.count_if(path.is_empty(), Case::ReadNone);
-                self.count_if(room == path.len(), Case::ReadExact);
-                self.count_if(room == path.len() + 1, Case::ReadOneLonger);
+                self.cases.count_if(path.is_empty(), Case::ReadNone);
+                self.cases.count_if(room == path.len(), Case::ReadExact);
+                self.cases.count_if(room == path.len() + 1, Case::ReadOneLonger);
             }
             Err(Refused::Full) => {
                 let held = read(file, usize::MAX).map_or(0, |path| path.len());
-                self.count_if(room + 1 == held, Case::ReadOneShort);
+                self.cases.count_if(room + 1 == held, Case::ReadOneShort);
                 let is_full = held.is_multiple_of(2 * PLACES);
-                self.count_if(room + 1 == held && is_full, Case::ReadOneShortOfFull);
+                self.cases.count_if(room + 1 == held && is_full, Case::ReadOneShortOfFull);
             }
             Err(Refused::EndsEarly { length }) => {
-                self.count_if(length == 0, Case::EmptyFile);
-                self.count_if(0 < length && length < BLOCK, Case::EndsInFirstBlock);
-                self.count_if(length > BLOCK && length % BLOCK > 0, Case::EndsInLaterBlock);
-                self.count_if(length > 0 && length % BLOCK == 0, Case::EndsAtBorder);
+                self.cases.count_if(length == 0, Case::EmptyFile);
+                self.cases.count_if(0 < length && length < BLOCK, Case::EndsInFirstBlock);
+                self.cases.count_if(length > BLOCK && length % BLOCK > 0, Case::EndsInLaterBlock);
+                self.cases.count_if(length > 0 && length % BLOCK == 0, Case::EndsAtBorder);
             }
             Err(Refused::GoesOn { end }) => {
                 let more = file.len() - end;
-                self.count_if(more < BLOCK, Case::GoesOnByBytes);
-                self.count_if(more >= BLOCK, Case::GoesOnByBlocks);
-                self.count_if(room == 0 && end > BLOCK, Case::GoesOnAndFull);
+                self.cases.count_if(more < BLOCK, Case::GoesOnByBytes);
+                self.cases.count_if(more >= BLOCK, Case::GoesOnByBlocks);
+                self.cases.count_if(room == 0 && end > BLOCK, Case::GoesOnAndFull);
             }
             Err(Refused::Damaged { block, faults }) => self.damaged(file, block, faults),
             Err(_) => {
-                self.count_if(true, Case::TooMany);
+                self.cases.count(Case::TooMany);
                 let block = &file[MOST_POINTS / PLACES * BLOCK..];
-                self.count_if(block.len() > BLOCK && block[4] < 31, Case::TooManyAndGoesOn);
+                self.cases.count_if(block.len() > BLOCK && block[4] < 31, Case::TooManyAndGoesOn);
             }
         }
     }
 
     fn damaged(&self, file: &[u8], block: usize, faults: Faults) {
-        if let [alone] = (0..WRONGS.len()).filter(|&wrong| faults[wrong]).collect::<Vec<_>>()[..] {
-            self.alone.count(alone);
-            let unused = WRONGS[alone].0 == Wrong::UnusedPlace;
-            self.count_if(unused && has_unused_zeros(file, block), Case::UnusedMinusZero);
+        let wrong = WRONGS.iter().zip(faults).filter(|&(_, is)| is);
+        if let [((alone, _), _)] = wrong.collect::<Vec<_>>()[..] {
+            self.alone.count(*alone);
+            let unused = *alone == Wrong::UnusedPlace;
+            self.cases.count_if(unused && has_unused_zeros(file, block), Case::UnusedMinusZero);
         }
         let left = &file[block * BLOCK..];
         let is_closing = left[4] < 31 && left[5] == 0;
-        self.count_if(block == 0, Case::DamagedFirst);
-        self.count_if(block > 0, Case::DamagedLater);
-        self.count_if(!is_closing && left.len() < 2 * BLOCK, Case::DamagedAndShort);
-        self.count_if(is_closing && left.len() > BLOCK, Case::DamagedAndGoesOn);
-        self.count_if(block * PLACES + PLACES > MOST_POINTS, Case::DamagedAtTheMost);
+        self.cases.count_if(block == 0, Case::DamagedFirst);
+        self.cases.count_if(block > 0, Case::DamagedLater);
+        self.cases.count_if(!is_closing && left.len() < 2 * BLOCK, Case::DamagedAndShort);
+        self.cases.count_if(is_closing && left.len() > BLOCK, Case::DamagedAndGoesOn);
+        self.cases.count_if(block * PLACES + PLACES > MOST_POINTS, Case::DamagedAtTheMost);
     }
 
     fn print(&self, files: u64) -> bool {
-        self.cases.print(CASES.map(|(_, name)| name));
+        self.cases.print();
         println!("8, where this alone is wrong:");
-        self.alone.print(WRONGS.map(|(_, name)| name));
+        self.alone.print();
         println!("damages:");
-        self.damages.print(DAMAGES.map(|(_, name)| name));
-        let numbers = [&self.cases.numbers()[..], &self.alone.numbers(), &self.damages.numbers()];
-        is_met(files, ENOUGH, numbers.concat().into_iter())
+        self.damages.print();
+        let numbers = self.cases.numbers().chain(self.alone.numbers());
+        is_met(files, ENOUGH, numbers.chain(self.damages.numbers()))
     }
 }
 
@@ -238,12 +235,7 @@ fn has_unused_zeros(file: &[u8], block: usize) -> bool {
 pub fn run(plan: Plan) -> bool {
     println!("files: {}, seed {}", plan.pairs, plan.seed);
     let met = Met::default();
-    let same = run::run_in_chunks(plan, CHUNK, &KINDS, |kind, random| {
-        let seed = random.bits();
-        let number = run::number_of(&kind, &KINDS);
-        compare(kind, seed, &met)
-            .map_err(|e| format!("{e}\n  again: differential file --kind {number} --seed {seed}"))
-    });
+    let same = run::run_seeded(plan, CHUNK, &KINDS, "file", |kind, seed| compare(kind, seed, &met));
     same && large_files::run(plan, &met) && short_files(plan, &met) && met.print(plan.pairs)
 }
 
@@ -282,7 +274,7 @@ fn damaged_copy(file: &[u8], path: &[f64], met: &Met, random: &mut Random) -> Re
     let mut copy = file.to_vec();
     for _ in 0..random.pick(&[1, 1, 1, 2]) {
         let (damage, _) = random.pick(&DAMAGES);
-        met.damages.count(damage as usize);
+        met.damages.count(damage);
         copy = damaged(&copy, damage, random);
     }
     let held = read(&copy, usize::MAX);
@@ -297,7 +289,7 @@ fn damaged_copy(file: &[u8], path: &[f64], met: &Met, random: &mut Random) -> Re
     wrapped_read(&copy)?;
     // Whatever reads as a path is that path's one file.
     if let Ok(held) = held {
-        met.count_if(copy != file, Case::ReadDamaged);
+        met.cases.count_if(copy != file, Case::ReadDamaged);
         if file_of(&held) != copy {
             return Err(format!("two files read as one path\n  path {held:?}"));
         }
@@ -325,8 +317,7 @@ pub fn check_write(
         input: lent.altered(),
         output: file.difference(written.as_chunks().0),
     };
-    let bits = || path.iter().map(|c| format!(" {:016x}", c.to_bits())).collect::<String>();
-    let path_of = || described("path", path.len(), 256, bits);
+    let path_of = || described("path", path.len(), 256, || hexadecimal(path));
     found.holds(room).map_err(|text| format!("writer, {text}{}", path_of()))
 }
 
@@ -395,22 +386,15 @@ impl Found {
         if is.map(|number| number as usize) != numbers {
             return Err(format!("lent {room}: library {is:?}, due {numbers:?}, {due:?}"));
         }
-        match (input, output) {
-            (None, None) => Ok(()),
-            (Some(wrong), _) => Err(format!("lent {room}: of the input, {wrong}")),
-            (None, Some(wrong)) => Err(format!("lent {room}: of the output, {wrong}")),
-        }
+        lent_slices::hold([("input", *input), ("output", *output)])
+            .map_err(|wrong| format!("lent {room}: {wrong}"))
     }
 }
 
 /// For each last block of two: every single bit, with checks left and made right, then every length.
 fn short_files(plan: Plan, met: &Met) -> bool {
-    let plan = Plan { pairs: PLACES as u64, ..plan };
     println!("short files: every single bit and every length");
-    let next = AtomicUsize::new(0);
-    let kinds = [((), "files of two blocks")];
-    run::run_in_chunks(plan, 1, &kinds, |(), _| {
-        let last = next.fetch_add(1, Ordering::Relaxed);
+    run::run_numbered(plan, PLACES, "files of two blocks", |last| {
         let random = &mut Random::stream(plan.seed, last as u64);
         let path: Vec<f64> = (0..2 * (PLACES + last)).map(|_| sound(random)).collect();
         let file = file_of(&path);
@@ -452,26 +436,13 @@ fn every_length(file: &[u8], met: &Met, random: &mut Random) -> Result<(), Strin
 
 #[cfg(test)]
 mod tests {
-    use harness::random::Random;
-
-    use super::{CASES, Met, compare};
+    use super::{Met, compare};
     use crate::damaged_files::KINDS;
+    use crate::run::assert_every_kind_agrees;
 
     #[test]
     fn every_kind_agrees() {
-        let mut random = Random::new(1);
         let met = Met::default();
-        for (kind, name) in KINDS {
-            for _ in 0..10 {
-                compare(kind, random.bits(), &met).unwrap_or_else(|e| panic!("{name}: {e}"));
-            }
-        }
-    }
-
-    #[test]
-    fn the_cases_stand_in_their_order() {
-        for (place, (case, _)) in CASES.into_iter().enumerate() {
-            assert_eq!(case as usize, place);
-        }
+        assert_every_kind_agrees(&KINDS, 10, |kind, random| compare(kind, random.bits(), &met));
     }
 }

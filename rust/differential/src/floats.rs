@@ -17,6 +17,11 @@ pub fn scaled(x: f64, e: i64) -> f64 {
     x * power(e / 2) * power(e - e / 2)
 }
 
+/// The bits of these numbers, a blank before each.
+pub fn hexadecimal(numbers: &[f64]) -> String {
+    numbers.iter().map(|x| format!(" {:016x}", x.to_bits())).collect()
+}
+
 /// A number from 2^e up to 2^(e + 1) with random digits.
 pub fn with_exponent(random: &mut Random, e: i64) -> f64 {
     let digits = random.bits() >> 12;

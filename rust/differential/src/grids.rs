@@ -28,12 +28,16 @@ enum Kind {
 /// Compares the plan's histories and plates.
 pub fn run(plan: Plan) -> bool {
     println!("grids: {} plates, seed {}", plan.pairs, plan.seed);
-    let mut kinds: Vec<(Kind, &str)> =
-        plates::KINDS.iter().map(|&(kind, name)| (Kind::Plate(kind), name)).collect();
+    run::run(plan, &kinds(), case)
+}
+
+fn kinds() -> Vec<(Kind, &'static str)> {
+    let mut kinds: Vec<_> =
+        plates::KINDS.into_iter().map(|(kind, name)| (Kind::Plate(kind), name)).collect();
     kinds.push((Kind::Edges, "the grid's own cell edges"));
     kinds.push((Kind::Ties, "ties"));
     kinds.push((Kind::Far, "far away"));
-    run::run(plan, &kinds, case)
+    kinds
 }
 
 fn case(kind: Kind, random: &mut Random) -> Result<(), String> {
@@ -222,20 +226,12 @@ fn cut(points: u32, random: &mut Random) -> Vec<u32> {
 
 #[cfg(test)]
 mod tests {
-    use harness::random::Random;
-
-    use super::{Case, Kind, case, polylines, reference_grid};
-    use crate::plates;
+    use super::{Case, case, kinds, polylines, reference_grid};
+    use crate::run::assert_every_kind_agrees;
 
     #[test]
     fn every_kind_agrees() {
-        let mut random = Random::new(1);
-        let plates = plates::KINDS.map(|(kind, _)| Kind::Plate(kind));
-        for kind in plates.into_iter().chain([Kind::Edges, Kind::Ties, Kind::Far]) {
-            for _ in 0..200 {
-                case(kind, &mut random).unwrap_or_else(|e| panic!("{kind:?}: {e}"));
-            }
-        }
+        assert_every_kind_agrees(&kinds(), 200, case);
     }
 
     /// Rounded cell edges: path place 2 is the nearest, and the search leaves before its ring.

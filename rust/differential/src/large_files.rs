@@ -1,7 +1,5 @@
 //! Files of about 1,048,576 points, and one of far more: what is due is written beside each.
 
-use std::sync::atomic::{AtomicUsize, Ordering};
-
 use harness::random::Random;
 
 use crate::damaged_files::sound;
@@ -68,11 +66,7 @@ pub fn run(plan: Plan, met: &Met) -> bool {
     println!("large files: up to 1,048,576 points and beyond");
     let mut random = Random::new(plan.seed);
     let path: Vec<f64> = (0..2_600_000).map(|_| sound(&mut random)).collect();
-    let next = AtomicUsize::new(0);
-    let kinds = [((), "large files")];
-    let plan = Plan { pairs: (WRITTEN.len() + READ.len()) as u64, ..plan };
-    run::run_in_chunks(plan, 1, &kinds, |(), _| {
-        let case = next.fetch_add(1, Ordering::Relaxed);
+    run::run_numbered(plan, WRITTEN.len() + READ.len(), "large files", |case| {
         let random = &mut Random::stream(plan.seed, case as u64);
         let outcome = match WRITTEN.get(case) {
             Some(&written) => write(&path, written, met, random),

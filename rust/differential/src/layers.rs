@@ -5,7 +5,7 @@ use twillharbor::StartPointStrategy::{self, Home, Inside, Outside};
 
 use crate::plates::{LAYERS, Plate};
 use crate::rule::{self, Held, Refused};
-use crate::tally::{Tally, is_met};
+use crate::tally::{Cases, Listed, Tally, is_met};
 
 /// How the contours of a plate are layered.
 #[derive(Debug, Clone, Copy)]
@@ -122,7 +122,7 @@ fn against_the_order(plate: &Plate, random: &mut Random) -> Vec<u32> {
     layers
 }
 
-/// What a run meets of layers, in the order of [`CASES`].
+/// What a run meets of layers.
 #[derive(Debug, Clone, Copy, PartialEq, Eq)]
 pub enum Case {
     SeveralLayers,
@@ -156,37 +156,39 @@ pub enum Case {
     Blank,
 }
 
-pub const CASES: [(Case, &str); 29] = [
-    (Case::SeveralLayers, "several layers"),
-    (Case::SixteenLayers, "all sixteen layers"),
-    (Case::Rising, "several layers, which rise along the slice"),
-    (Case::Falling, "several layers, which fall along the slice"),
-    (Case::OneApart, "one contour apart from four or more in one layer"),
-    (Case::EmptyBelow, "an empty contour of a lower layer than all others"),
-    (Case::NearerStartWaits, "Inside, and a nearer end of a higher layer does not start"),
-    (Case::FartherStartWaits, "Outside, and a farther end of a higher layer does not start"),
-    (Case::StartsAsFar, "an end of a higher layer as far from the centre as the start"),
-    (Case::NearerWaits, "a nearer contour of a higher layer waits"),
-    (Case::AsNearWaits, "a contour of a higher layer as near as the next one waits"),
-    (Case::NoLayers, "13: no layers, but contours"),
-    (Case::Short, "13: too few layers"),
-    (Case::Long, "13: too many layers"),
-    (Case::NoContours, "13: layers, but no contours"),
-    (Case::LengthBeforeLayer, "13: a wrong length before a high layer"),
-    (Case::SixteenIsHigh, "13: layer 16"),
-    (Case::SeventeenIsHigh, "13: layer 17"),
-    (Case::TwoTo31IsHigh, "13: layer 2,147,483,648"),
-    (Case::GreatestIsHigh, "13: layer 4,294,967,295"),
-    (Case::OnlyFirstOfSeveral, "13: the first of several high layers"),
-    (Case::SkippedIsHigh, "13: the layer of an empty contour"),
-    (Case::After1, "1 before 13"),
-    (Case::After2, "2 before 13"),
-    (Case::After3, "3 before 13"),
-    (Case::Before4, "13 before 4"),
-    (Case::Before5, "13 before 5"),
-    (Case::Before6, "13 before 6"),
-    (Case::Blank, "13: no contour holds a point"),
-];
+impl Listed for Case {
+    const LIST: &'static [(Self, &'static str)] = &[
+        (Self::SeveralLayers, "several layers"),
+        (Self::SixteenLayers, "all sixteen layers"),
+        (Self::Rising, "several layers, which rise along the slice"),
+        (Self::Falling, "several layers, which fall along the slice"),
+        (Self::OneApart, "one contour apart from four or more in one layer"),
+        (Self::EmptyBelow, "an empty contour of a lower layer than all others"),
+        (Self::NearerStartWaits, "Inside, and a nearer end of a higher layer does not start"),
+        (Self::FartherStartWaits, "Outside, and a farther end of a higher layer does not start"),
+        (Self::StartsAsFar, "an end of a higher layer as far from the centre as the start"),
+        (Self::NearerWaits, "a nearer contour of a higher layer waits"),
+        (Self::AsNearWaits, "a contour of a higher layer as near as the next one waits"),
+        (Self::NoLayers, "13: no layers, but contours"),
+        (Self::Short, "13: too few layers"),
+        (Self::Long, "13: too many layers"),
+        (Self::NoContours, "13: layers, but no contours"),
+        (Self::LengthBeforeLayer, "13: a wrong length before a high layer"),
+        (Self::SixteenIsHigh, "13: layer 16"),
+        (Self::SeventeenIsHigh, "13: layer 17"),
+        (Self::TwoTo31IsHigh, "13: layer 2,147,483,648"),
+        (Self::GreatestIsHigh, "13: layer 4,294,967,295"),
+        (Self::OnlyFirstOfSeveral, "13: the first of several high layers"),
+        (Self::SkippedIsHigh, "13: the layer of an empty contour"),
+        (Self::After1, "1 before 13"),
+        (Self::After2, "2 before 13"),
+        (Self::After3, "3 before 13"),
+        (Self::Before4, "13 before 4"),
+        (Self::Before5, "13 before 5"),
+        (Self::Before6, "13 before 6"),
+        (Self::Blank, "13: no contour holds a point"),
+    ];
+}
 
 /// A run of as many plates meets every case.
 const ENOUGH: u64 = 10_000;
@@ -196,16 +198,10 @@ const ENOUGH: u64 = 10_000;
 #[derive(Debug, Default)]
 pub struct Met {
     one_layer: Tally<{ LAYERS as usize }>,
-    cases: Tally<{ CASES.len() }>,
+    cases: Cases<Case>,
 }
 
 impl Met {
-    fn count_if(&self, holds: bool, case: Case) {
-        if holds {
-            self.cases.count(case as usize);
-        }
-    }
-
     /// A plate, and what the layers did to the choices after the start, or why it is refused.
     pub fn plate(&self, plate: &Plate, strategy: StartPointStrategy, due: Result<Held, Refused>) {
         match due {
@@ -217,8 +213,8 @@ impl Met {
     /// A call that is refused for the layers is lent a work slice, which should have a number for
     /// each contour, and a slice for the path or the order: of these lengths.
     pub fn lent(&self, plate: &Plate, work: usize, slice: usize) {
-        self.count_if(work < plate.lengths.len(), Case::Before5);
-        self.count_if(slice == 0 && !plate.points.is_empty(), Case::Before6);
+        self.cases.count_if(work < plate.lengths.len(), Case::Before5);
+        self.cases.count_if(slice == 0 && !plate.points.is_empty(), Case::Before6);
     }
 
     fn sound(&self, plate: &Plate, strategy: StartPointStrategy, held: Held) {
@@ -231,28 +227,29 @@ impl Met {
         plate.held_layers().for_each(|layer| times[layer as usize] += 1);
         let used: Vec<usize> = times.into_iter().filter(|&times| times > 0).collect();
         let several = used.len() > 1;
-        self.count_if(several, Case::SeveralLayers);
-        self.count_if(used.len() == times.len(), Case::SixteenLayers);
-        self.count_if(several && plate.held_layers().is_sorted(), Case::Rising);
-        self.count_if(several && plate.held_layers().is_sorted_by(|a, b| a >= b), Case::Falling);
+        self.cases.count_if(several, Case::SeveralLayers);
+        self.cases.count_if(used.len() == times.len(), Case::SixteenLayers);
+        self.cases.count_if(several && plate.held_layers().is_sorted(), Case::Rising);
+        self.cases
+            .count_if(several && plate.held_layers().is_sorted_by(|a, b| a >= b), Case::Falling);
         let apart = matches!(used[..], [1, many] | [many, 1] if many >= 4);
-        self.count_if(apart, Case::OneApart);
+        self.cases.count_if(apart, Case::OneApart);
         let mut contours = plate.lengths.iter().zip(&plate.layers);
         let below = plate
             .held_layers()
             .min()
             .is_some_and(|lowest| contours.any(|(&length, &layer)| length == 0 && layer < lowest));
-        self.count_if(below, Case::EmptyBelow);
+        self.cases.count_if(below, Case::EmptyBelow);
         self.choices(plate, strategy, held);
     }
 
     fn choices(&self, plate: &Plate, strategy: StartPointStrategy, held: Held) {
         let start = rule::held_at_start(plate, strategy);
-        self.count_if(start.nearer && strategy == Inside, Case::NearerStartWaits);
-        self.count_if(start.nearer && strategy == Outside, Case::FartherStartWaits);
-        self.count_if(start.as_near && !matches!(strategy, Home(_)), Case::StartsAsFar);
-        self.count_if(held.nearer, Case::NearerWaits);
-        self.count_if(held.as_near, Case::AsNearWaits);
+        self.cases.count_if(start.nearer && strategy == Inside, Case::NearerStartWaits);
+        self.cases.count_if(start.nearer && strategy == Outside, Case::FartherStartWaits);
+        self.cases.count_if(start.as_near && !matches!(strategy, Home(_)), Case::StartsAsFar);
+        self.cases.count_if(held.nearer, Case::NearerWaits);
+        self.cases.count_if(held.as_near, Case::AsNearWaits);
     }
 
     fn refused(&self, plate: &Plate, (number, place): Refused) {
@@ -260,30 +257,30 @@ impl Met {
         let Err((bad_layer, _)) = rule::layered(lengths.len(), layers) else {
             return;
         };
-        self.count_if(number == 1, Case::After1);
-        self.count_if(number == 2, Case::After2);
-        self.count_if(number == 3, Case::After3);
+        self.cases.count_if(number == 1, Case::After1);
+        self.cases.count_if(number == 2, Case::After2);
+        self.cases.count_if(number == 3, Case::After3);
         if number != bad_layer {
             return;
         }
-        self.count_if(rule::on_plate(points).is_err(), Case::Before4);
-        self.count_if(points.is_empty(), Case::Blank);
+        self.cases.count_if(rule::on_plate(points).is_err(), Case::Before4);
+        self.cases.count_if(points.is_empty(), Case::Blank);
         let high = layers.iter().filter(|&&layer| u64::from(layer) >= LAYERS).count();
         if layers.len() != lengths.len() {
-            self.count_if(layers.is_empty(), Case::NoLayers);
-            self.count_if(!layers.is_empty() && layers.len() < lengths.len(), Case::Short);
-            self.count_if(!lengths.is_empty() && layers.len() > lengths.len(), Case::Long);
-            self.count_if(lengths.is_empty(), Case::NoContours);
-            self.count_if(high > 0, Case::LengthBeforeLayer);
+            self.cases.count_if(layers.is_empty(), Case::NoLayers);
+            self.cases.count_if(!layers.is_empty() && layers.len() < lengths.len(), Case::Short);
+            self.cases.count_if(!lengths.is_empty() && layers.len() > lengths.len(), Case::Long);
+            self.cases.count_if(lengths.is_empty(), Case::NoContours);
+            self.cases.count_if(high > 0, Case::LengthBeforeLayer);
             return;
         }
         let layer = layers[place as usize];
-        self.count_if(layer == 16, Case::SixteenIsHigh);
-        self.count_if(layer == 17, Case::SeventeenIsHigh);
-        self.count_if(layer == 1 << 31, Case::TwoTo31IsHigh);
-        self.count_if(layer == u32::MAX, Case::GreatestIsHigh);
-        self.count_if(high > 1, Case::OnlyFirstOfSeveral);
-        self.count_if(lengths[place as usize] == 0, Case::SkippedIsHigh);
+        self.cases.count_if(layer == 16, Case::SixteenIsHigh);
+        self.cases.count_if(layer == 17, Case::SeventeenIsHigh);
+        self.cases.count_if(layer == 1 << 31, Case::TwoTo31IsHigh);
+        self.cases.count_if(layer == u32::MAX, Case::GreatestIsHigh);
+        self.cases.count_if(high > 1, Case::OnlyFirstOfSeveral);
+        self.cases.count_if(lengths[place as usize] == 0, Case::SkippedIsHigh);
     }
 
     /// Prints how often each case was met, and says whether a run of that many plates met every
@@ -293,7 +290,7 @@ impl Met {
         println!("plates in one layer, from layer 0 to 15, compared with mujou's own functions:");
         println!("    {}", one_layer.map(|n| n.to_string()).join(" "));
         println!("met of layers:");
-        self.cases.print(CASES.map(|(_, name)| name));
+        self.cases.print();
         is_met(plates, ENOUGH, one_layer.into_iter().chain(self.cases.numbers()))
     }
 }
@@ -304,16 +301,10 @@ mod tests {
     use twillharbor::Size;
     use twillharbor::StartPointStrategy::Inside;
 
-    use super::{CASES, Case, LAYERINGS, Met, layers};
+    use super::{Case, LAYERINGS, Met, layers};
     use crate::plates::{KINDS, Plate, small_plate};
     use crate::rule::{Held, checked};
-
-    #[test]
-    fn cases_stand_in_their_order() {
-        for (place, (case, _)) in CASES.into_iter().enumerate() {
-            assert_eq!(case as usize, place);
-        }
-    }
+    use crate::tally::Listed;
 
     #[test]
     fn every_layering_makes_sound_layers() {
@@ -333,12 +324,10 @@ mod tests {
 
     fn met(lengths: &[u32], layers: &[u32]) -> Vec<Case> {
         let points: Vec<f64> = (0..2 * lengths.iter().sum::<u32>()).map(f64::from).collect();
-        let plate = Plate::new(points, lengths.to_vec(), Size::default());
-        let plate = Plate { layers: layers.to_vec(), ..plate };
+        let plate = Plate::new(points, lengths.to_vec(), Size::default()).with_layers(layers);
         let met = Met::default();
         met.plate(&plate, Inside, checked(&plate, Inside).map(|()| Held::default()));
-        let counts = CASES.into_iter().zip(met.cases.numbers());
-        counts.filter(|(_, met)| *met > 0).map(|(case, _)| case.0).collect()
+        met.cases.met()
     }
 
     #[test]
@@ -365,7 +354,7 @@ mod tests {
         let met = Met::default();
         assert!(met.print(9_999));
         assert!(!met.print(10_000));
-        CASES.iter().for_each(|&(case, _)| met.count_if(true, case));
+        Case::LIST.iter().for_each(|&(case, _)| met.cases.count(case));
         (0..super::LAYERS as usize).for_each(|layer| met.one_layer.count(layer));
         assert!(met.print(10_000));
     }

@@ -289,6 +289,7 @@ mod tests {
 
     use super::{KINDS, Root, case, radicand, root};
     use crate::floats::{any, ends, nudged};
+    use crate::run::assert_every_kind_agrees;
 
     /// The significand, of 53 digits, and the exponent of its first, by the bits.
     fn parts(x: f64) -> (u64, i64) {
@@ -320,12 +321,7 @@ mod tests {
 
     #[test]
     fn every_kind_agrees() {
-        let mut random = Random::new(1);
-        for (kind, name) in KINDS {
-            for _ in 0..2_000 {
-                case(kind, &mut random).unwrap_or_else(|e| panic!("{name}: {e}"));
-            }
-        }
+        assert_every_kind_agrees(&KINDS, 2_000, case);
     }
 
     #[test]

@@ -6,10 +6,10 @@ use twillharbor::{Point, pair_length};
 
 use crate::distances::{Answer, expected};
 use crate::floats::{nudged, scaled, signed};
-use crate::handed::numbers;
-use crate::pairs::{self, DAMAGES, Pair, damaged};
+use crate::pairs::{self, Pair, described};
+use crate::plate_case::numbers;
 use crate::rule::{Refused, lengths};
-use crate::run::{self, Plan};
+use crate::run::Plan;
 
 /// Four times so many 1,024ths are within the distance call's limit.
 const DIGITS: i64 = 38;
@@ -25,12 +25,7 @@ enum Kind {
 /// Compares the plan's pairs, then damaged ones, one for each sixteen of them.
 pub fn run(plan: Plan) -> bool {
     println!("lengths: {} pairs, seed {}", plan.pairs, plan.seed);
-    if !run::run(plan, &kinds(), |kind, random| compare(pair(kind, random))) {
-        return false;
-    }
-    let plan = Plan { pairs: plan.pairs.div_ceil(16), ..plan };
-    println!("refusals: {} pairs, seed {}", plan.pairs, plan.seed);
-    run::run(plan, &DAMAGES, |damage, random| compare(damaged(damage, random)))
+    pairs::run(plan, &kinds(), pair, compare)
 }
 
 fn kinds() -> Vec<(Kind, &'static str)> {
@@ -96,11 +91,6 @@ fn one_way(pair: Pair) -> Result<Result<u64, Refused>, String> {
     Err(described(pair, &text))
 }
 
-fn described(pair: Pair, text: &str) -> String {
-    let [ax, ay, bx, by] = pair.map(f64::to_bits);
-    format!("a {ax:016x} {ay:016x} b {bx:016x} {by:016x}: {text}")
-}
-
 #[cfg(test)]
 mod tests {
     use harness::random::Random;
@@ -108,20 +98,12 @@ mod tests {
     use super::{Kind, compare, kinds, pair};
     use crate::mujou::distance;
     use crate::pairs::{DAMAGES, LIMIT, damaged};
+    use crate::run::assert_every_kind_agrees;
 
     #[test]
     fn every_kind_agrees() {
-        let mut random = Random::new(1);
-        for (kind, name) in kinds() {
-            for _ in 0..2_000 {
-                compare(pair(kind, &mut random)).unwrap_or_else(|e| panic!("{name}: {e}"));
-            }
-        }
-        for (damage, name) in DAMAGES {
-            for _ in 0..200 {
-                compare(damaged(damage, &mut random)).unwrap_or_else(|e| panic!("{name}: {e}"));
-            }
-        }
+        assert_every_kind_agrees(&kinds(), 2_000, |kind, random| compare(pair(kind, random)));
+        assert_every_kind_agrees(&DAMAGES, 200, |damage, random| compare(damaged(damage, random)));
     }
 
     /// How many of 10,000 are a whole number of 1,024ths, one float's step short of one, and one

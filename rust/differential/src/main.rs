@@ -11,33 +11,34 @@ mod damaged_files;
 mod damaged_marks;
 mod decoder;
 mod distances;
-mod drawn;
 mod files;
 mod floats;
 mod grids;
-mod handed;
-mod joining;
 mod large_files;
 mod layers;
 mod leaves;
 mod lengths;
-mod lent;
-mod meeting;
+mod lent_slices;
+mod marked_paths;
+mod meeting_plates;
 mod mujou;
 mod near;
 mod other_paths;
 mod pairs;
-mod parked;
+mod parked_points;
 mod passed_over;
+mod path_check;
+mod path_lengths;
 mod paths;
+mod plate_calls;
+mod plate_case;
 mod plate_file;
 mod plates;
-mod quoted;
 mod record;
 mod reference;
 mod remainders;
+mod retrace_call;
 mod retrace_plates;
-mod retracing;
 mod rule;
 mod run;
 mod small_marks;
@@ -97,15 +98,15 @@ fn command(words: &[String]) -> Result<bool, String> {
         "centers" => Ok(centers::run(plan(rest, "--pairs")?)),
         "grids" => Ok(grids::run(plan(rest, "--plates")?)),
         "caches" => Ok(caches::run(plan(rest, "--plates")?)),
-        "plates" => Ok(joining::run(plan(rest, "--plates")?)),
+        "plates" => Ok(plate_calls::run(plan(rest, "--plates")?)),
         "plate" => {
             let [kind, seed] = options(rest, ["--kind", "--seed"])?;
-            joining::run_one(number("--kind", kind)?, number("--seed", seed)?)
+            plate_calls::run_one(number("--kind", kind)?, number("--seed", seed)?)
         }
-        "retrace" => Ok(retracing::run(plan(rest, "--plates")?)),
+        "retrace" => Ok(retrace_call::run(plan(rest, "--plates")?)),
         "retrace-plate" => {
             let [kind, seed] = options(rest, ["--kind", "--seed"])?;
-            retracing::run_one(number("--kind", kind)?, number("--seed", seed)?)
+            retrace_call::run_one(number("--kind", kind)?, number("--seed", seed)?)
         }
         "paths" => Ok(paths::run(plan(rest, "--plates")?)),
         "paths-plate" => {

@@ -5,11 +5,32 @@ use std::ops::Range;
 
 use harness::random::Random;
 
-use crate::drawn::Handed;
+use crate::decoder::Marked;
 use crate::floats::nudged;
+use crate::path_check::Handed;
+use crate::plates::Plate;
 use crate::rule::retrace::{BACK_STEP, CUT, JUMP, START, TOUCH};
 
 type Bits = [u64; 2];
+
+/// On larger plates every path is a plain one.
+const LARGE: usize = 150;
+
+/// A path that draws the plate, whose layers do not count.
+pub fn drawn_otherwise(plate: &Plate, random: &mut Random) -> Handed {
+    let (points, lengths) = (&plate.points, &plate.lengths);
+    if points.len() / 2 > LARGE {
+        plain_path(points, lengths, random)
+    } else {
+        other_path(points, lengths, random)
+    }
+}
+
+impl From<Handed> for Marked {
+    fn from(Handed { path, marks, .. }: Handed) -> Self {
+        Self { path, marks }
+    }
+}
 
 /// A path that draws the plate: contours in any order, entered at any vertex from wherever the path
 /// stands, drawn in pieces, with steps back and forth over earlier pairs. Points decide what can
@@ -44,7 +65,7 @@ pub fn other_path(points: &[f64], lengths: &[u32], random: &mut Random) -> Hande
 
 /// A path that draws a plate of any size: the contours in their order or against it, each from its
 /// first or from its last vertex.
-pub fn plain_path(points: &[f64], lengths: &[u32], random: &mut Random) -> Handed {
+fn plain_path(points: &[f64], lengths: &[u32], random: &mut Random) -> Handed {
     let mut pen = Pen::new(points, lengths);
     let backward = random.one_in(2);
     let mut contours = std::mem::take(&mut pen.waiting);
@@ -361,7 +382,7 @@ mod tests {
     use harness::random::Random;
 
     use super::{DAMAGES, damaged, other_path, plain_path};
-    use crate::drawn::Due;
+    use crate::path_check::Due;
     use crate::plates;
 
     #[test]

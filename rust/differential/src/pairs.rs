@@ -3,6 +3,7 @@
 use harness::random::Random;
 
 use crate::floats::{nearly_halfway_root, nudged, power, scaled, signed, tie, with_exponent};
+use crate::run::{self, Plan};
 
 /// The greatest magnitude that the distance call takes.
 pub const LIMIT: f64 = 2_147_483_648.0;
@@ -60,6 +61,27 @@ pub const DAMAGES: [(Option<Damage>, &str); 5] = [
     (Some(Damage::FarBeyond), "one coordinate far beyond the limit"),
     (None, "several damaged coordinates"),
 ];
+
+/// Compares the plan's pairs, then damaged ones, one for each sixteen of them.
+pub fn run<K: Copy + Sync>(
+    plan: Plan,
+    kinds: &[(K, &str)],
+    pair: impl Fn(K, &mut Random) -> Pair + Sync,
+    compare: impl Fn(Pair) -> Result<(), String> + Sync,
+) -> bool {
+    if !run::run(plan, kinds, |kind, random| compare(pair(kind, random))) {
+        return false;
+    }
+    let plan = Plan { pairs: plan.pairs.div_ceil(16), ..plan };
+    println!("refusals: {} pairs, seed {}", plan.pairs, plan.seed);
+    run::run(plan, &DAMAGES, |damage, random| compare(damaged(damage, random)))
+}
+
+/// The text, with the pair.
+pub fn described(pair: Pair, text: &str) -> String {
+    let [ax, ay, bx, by] = pair.map(f64::to_bits);
+    format!("a {ax:016x} {ay:016x} b {bx:016x} {by:016x}: {text}")
+}
 
 /// A pair of the kind, all of it within the limit.
 pub fn pair(kind: Kind, random: &mut Random) -> Pair {

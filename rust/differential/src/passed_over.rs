@@ -9,7 +9,7 @@ use harness::random::Random;
 use twillharbor::Size;
 
 use crate::floats::nudged;
-use crate::meeting::shuffle;
+use crate::meeting_plates::shuffle;
 use crate::plates::{LIMIT, Plate};
 use crate::rule::retrace::Grid;
 

@@ -1,4 +1,4 @@
-//! The check of paths against document 02's ticket 7 as `drawn` has it: paths of the retrace call,
+//! The check of paths against document 02's ticket 7 as `path_check` has it: paths of the retrace call,
 //! paths that draw the plate in another way, damaged copies of both, and every small path over two
 //! points.
 //!
@@ -6,20 +6,21 @@
 //! inputs stay, and so does the work slice after every refusal but 12. The cuts of every path that
 //! is accepted are together as long as the plate's contours.
 
-use std::sync::atomic::{AtomicUsize, Ordering};
-
 use harness::random::Random;
-use twillharbor::StartPointStrategy::{Inside, Outside};
-use twillharbor::{MarkedPath, Refusal, c};
+use twillharbor::StartPointStrategy::{self, Inside, Outside};
+use twillharbor::{MarkedPath, c};
 
-use crate::drawn::{Broken, Due, Handed, RULES};
-use crate::lent::Lent;
-use crate::other_paths::{DAMAGES, damaged, other_path, plain_path};
+use crate::decoder::Marked;
+use crate::floats::hexadecimal;
+use crate::lent_slices::{self, Lent};
+use crate::marked_paths::{Feature, features, landings, retraced};
+use crate::other_paths::{DAMAGES, damaged, drawn_otherwise};
+use crate::path_check::{Broken, Due, Handed, Rule};
 use crate::plates::{Plate, damaged_somehow};
 use crate::retrace_plates::{KINDS, Kind, plate};
-use crate::rule::retrace::{BACK_STEP, CUT, JUMP, START, TOUCH};
+use crate::rule::retrace::{BACK_STEP, CUT};
 use crate::run::{self, Plan};
-use crate::tally::{self, Tally, is_met};
+use crate::tally::{self, Cases, Listed, Tally, is_met};
 
 /// How many damaged copies of each path are checked.
 const COPIES: usize = 8;
@@ -27,8 +28,6 @@ const COPIES: usize = 8;
 const CHUNK: u64 = 256;
 /// Longer paths of the retrace call are not checked here: the retrace run checks them.
 const ROOM: usize = 3_000;
-/// On larger plates other paths are plain ones.
-const LARGE: usize = 150;
 
 /// What a run meets beside the rules.
 #[derive(Debug, Clone, Copy, PartialEq, Eq)]
@@ -45,59 +44,53 @@ enum Case {
     Blank,
     Retraced,
     OtherOrder,
-    EnteredBetween,
-    Touched,
-    Jumped,
-    SteppedBack,
-    SteppedBackOverBackStep,
-    OtherZero,
+    Has(Feature),
     OtherVertexOfTheseBits,
     HarmlessDamage,
     NanInThePath,
     LongerWork,
 }
 
-const CASES: [(Case, &str); 22] = [
-    (Case::TooManyContours, "1: too many contours"),
-    (Case::TooManyPoints, "2: too many points"),
-    (Case::Miscounted, "3: of the plate"),
-    (Case::OffThePlate, "4: off the plate"),
-    (Case::OddPath, "3: half a path point"),
-    (Case::MarksMiscounted, "3: marks not as long as the path"),
-    (Case::WorkShort, "5: work short"),
-    (Case::OddPathAndShort, "3: of the path, where work is short too"),
-    (Case::Accepted, "accepted"),
-    (Case::Blank, "accepted: a blank plate"),
-    (Case::Retraced, "accepted: paths of the retrace call"),
-    (Case::OtherOrder, "accepted: contours in another order than theirs and the call's"),
-    (Case::EnteredBetween, "accepted: a contour entered between its ends"),
-    (Case::Touched, "accepted: with a touch"),
-    (Case::Jumped, "accepted: with a jump"),
-    (Case::SteppedBack, "accepted: with a back-step"),
-    (Case::SteppedBackOverBackStep, "accepted: with a back-step over a back-step"),
-    (Case::OtherZero, "accepted: with a touch of 0 and -0"),
-    (Case::OtherVertexOfTheseBits, "accepted: a cut from another vertex that has the bits"),
-    (Case::HarmlessDamage, "accepted: though damaged"),
-    (Case::NanInThePath, "12: at a NaN"),
-    (Case::LongerWork, "accepted: with more work than is needed"),
-];
+impl Listed for Case {
+    const LIST: &'static [(Self, &'static str)] = &[
+        (Self::TooManyContours, "1: too many contours"),
+        (Self::TooManyPoints, "2: too many points"),
+        (Self::Miscounted, "3: of the plate"),
+        (Self::OffThePlate, "4: off the plate"),
+        (Self::OddPath, "3: half a path point"),
+        (Self::MarksMiscounted, "3: marks not as long as the path"),
+        (Self::WorkShort, "5: work short"),
+        (Self::OddPathAndShort, "3: of the path, where work is short too"),
+        (Self::Accepted, "accepted"),
+        (Self::Blank, "accepted: a blank plate"),
+        (Self::Retraced, "accepted: paths of the retrace call"),
+        (Self::OtherOrder, "accepted: contours in another order than theirs and the call's"),
+        (Self::Has(Feature::EnteredBetween), "accepted: a contour entered between its ends"),
+        (Self::Has(Feature::Touched), "accepted: with a touch"),
+        (Self::Has(Feature::Jumped), "accepted: with a jump"),
+        (Self::Has(Feature::SteppedBack), "accepted: with a back-step"),
+        (
+            Self::Has(Feature::SteppedBackOverBackStep),
+            "accepted: with a back-step over a back-step",
+        ),
+        (Self::Has(Feature::OtherZero), "accepted: with a touch of 0 and -0"),
+        (Self::OtherVertexOfTheseBits, "accepted: a cut from another vertex that has the bits"),
+        (Self::HarmlessDamage, "accepted: though damaged"),
+        (Self::NanInThePath, "12: at a NaN"),
+        (Self::LongerWork, "accepted: with more work than is needed"),
+    ];
+}
 
 /// A run of as many plates meets every case.
 const ENOUGH: u64 = 2_000;
 
 #[derive(Debug, Default)]
 struct Met {
-    cases: Tally<{ CASES.len() }>,
-    rules: Tally<{ RULES.len() }>,
+    cases: Cases<Case>,
+    rules: Cases<Rule>,
 }
 
 impl Met {
-    fn count_if(&self, holds: bool, case: Case) {
-        if holds {
-            self.cases.count(case as usize);
-        }
-    }
-
     fn due(&self, handed: &Handed, work: usize, due: Due) {
         let case = match due {
             Due::Accepted => Case::Accepted,
@@ -109,16 +102,16 @@ impl Met {
             Due::MarksMiscounted => Case::MarksMiscounted,
             Due::WorkShort => Case::WorkShort,
             Due::NotDrawn(Broken { rule, place }) => {
-                self.rules.count(rule as usize);
+                self.rules.count(rule);
                 let at = handed.path.get(2 * place..2 * place + 2);
                 let is_nan = at.is_some_and(|point| point.iter().any(|c| c.is_nan()));
-                self.count_if(is_nan, Case::NanInThePath);
+                self.cases.count_if(is_nan, Case::NanInThePath);
                 return;
             }
         };
-        self.cases.count(case as usize);
+        self.cases.count(case);
         let short = due == Due::OddPath && work < handed.work();
-        self.count_if(short, Case::OddPathAndShort);
+        self.cases.count_if(short, Case::OddPathAndShort);
         if due == Due::Accepted {
             self.accepted(handed, work);
         }
@@ -127,37 +120,19 @@ impl Met {
     /// What an accepted path has.
     fn accepted(&self, handed: &Handed, work: usize) {
         let (marks, _) = handed.marks.as_chunks();
-        let (path, _) = handed.path.as_chunks();
-        let has = |kind| marks.iter().any(|&[of, _]| of == kind);
-        self.count_if(handed.points.is_empty(), Case::Blank);
-        self.count_if(has(TOUCH), Case::Touched);
-        self.count_if(has(JUMP), Case::Jumped);
-        self.count_if(has(BACK_STEP), Case::SteppedBack);
-        let twice =
-            |&[kind, k]: &[u32; 2]| kind == BACK_STEP && marks[k as usize + 1][0] == BACK_STEP;
-        self.count_if(marks.iter().any(twice), Case::SteppedBackOverBackStep);
-        let other_zero = |place: usize| {
-            let [a, b]: [[f64; 2]; 2] = [path[place - 1], path[place]];
-            marks[place][0] == TOUCH && a.map(f64::to_bits) != b.map(f64::to_bits)
-        };
-        self.count_if((1..marks.len()).any(other_zero), Case::OtherZero);
-        self.count_if(work > handed.work(), Case::LongerWork);
-        self.count_if(has_other_vertex(marks), Case::OtherVertexOfTheseBits);
-        let mut ends = vec![false; handed.points.len() / 2];
-        let mut first = 0;
-        for length in handed.lengths.iter().map(|&length| length as usize).filter(|&n| n > 0) {
-            (ends[first], ends[first + length - 1]) = (true, true);
-            first += length;
+        self.cases.count_if(handed.points.is_empty(), Case::Blank);
+        for feature in features(&handed.path, &handed.marks, &handed.lengths) {
+            self.cases.count(Case::Has(feature));
         }
-        let between = |&[kind, v]: &[u32; 2]| kind != CUT && kind != BACK_STEP && !ends[v as usize];
-        self.count_if(marks.iter().any(between), Case::EnteredBetween);
+        self.cases.count_if(work > handed.work(), Case::LongerWork);
+        self.cases.count_if(has_other_vertex(marks), Case::OtherVertexOfTheseBits);
     }
 
     fn print(&self, plates: u64) -> bool {
-        self.cases.print(CASES.map(|(_, name)| name));
+        self.cases.print();
         println!("12, by the rule that is broken first:");
-        self.rules.print(RULES.map(|(_, name)| name));
-        let numbers = self.cases.numbers().into_iter().chain(self.rules.numbers());
+        self.rules.print();
+        let numbers = self.cases.numbers().chain(self.rules.numbers());
         is_met(plates, ENOUGH, numbers)
     }
 }
@@ -182,25 +157,18 @@ fn has_other_vertex(marks: &[[u32; 2]]) -> bool {
 pub fn run(plan: Plan) -> bool {
     println!("paths: {} plates, seed {}", plan.pairs, plan.seed);
     let met = Met::default();
-    let same = run::run_in_chunks(plan, CHUNK, &KINDS, |kind, random| {
-        let seed = random.bits();
-        let number = run::number_of(&kind, &KINDS);
-        compare(kind, seed, &met).map_err(|e| {
-            format!("{e}\n  again: differential paths-plate --kind {number} --seed {seed}")
-        })
-    });
+    let same =
+        run::run_seeded(plan, CHUNK, &KINDS, "paths-plate", |kind, seed| compare(kind, seed, &met));
     if !same {
         return false;
     }
     let is_met = met.print(plan.pairs);
     let small = small_plates();
-    let plan = Plan { pairs: small.len() as u64, ..plan };
-    println!("small paths: of {} plates", plan.pairs);
-    let (next, calls) = (AtomicUsize::new(0), Tally::<2>::default());
-    let kinds = [((), "plates of up to 3 points, with every small path")];
-    let same = run::run_in_chunks(plan, 1, &kinds, |(), _| {
-        let plate = &small[next.fetch_add(1, Ordering::Relaxed)];
-        every_path(plate, &calls)
+    println!("small paths: of {} plates", small.len());
+    let calls = Tally::<2>::default();
+    let name = "plates of up to 3 points, with every small path";
+    let same = run::run_numbered(plan, small.len(), name, |number| {
+        every_path(&small[number], &calls)
             .map_err(|e| format!("{e}\n  again: differential paths --plates 0 --seed 1"))
     });
     calls.print(["small paths refused", "small paths accepted"]);
@@ -216,12 +184,13 @@ pub fn run_one(kind: u64, seed: u64) -> Result<bool, String> {
 fn compare(kind: Kind, seed: u64, met: &Met) -> Result<(), String> {
     let random = &mut Random::new(seed);
     let plate = plate(kind, random);
-    let (retraced, other) = (retraced(&plate, random)?, drawn_otherwise(&plate, random));
+    let retraced = retraced_in_one_layer(&plate, random.pick(&[Outside, Inside]))?;
+    let other = drawn_otherwise(&plate, random);
     if let Some(retraced) = &retraced {
         if retraced.draws().is_err() {
             return Err(described(retraced, "the retrace call's path does not draw the plate"));
         }
-        met.count_if(true, Case::Retraced);
+        met.cases.count(Case::Retraced);
     }
     if other.draws().is_err() {
         return Err(described(&other, "a path that was to draw the plate does not"));
@@ -229,7 +198,7 @@ fn compare(kind: Kind, seed: u64, met: &Met) -> Result<(), String> {
     if let Some(retraced) = &retraced {
         let orders = [entries(retraced), entries(&other)];
         let in_order = orders[1].is_sorted();
-        met.count_if(orders[0] != orders[1] && !in_order, Case::OtherOrder);
+        met.cases.count_if(orders[0] != orders[1] && !in_order, Case::OtherOrder);
     }
     for handed in retraced.iter().chain([&other]) {
         for work in [handed.work(), handed.work() + 1 + random.below(30) as usize] {
@@ -246,52 +215,30 @@ fn compare(kind: Kind, seed: u64, met: &Met) -> Result<(), String> {
     refused(&plate, &other, met, random)
 }
 
+/// The path of the retrace call without layers, of which the check call knows nothing, unless it is
+/// long.
+fn retraced_in_one_layer(
+    plate: &Plate,
+    strategy: StartPointStrategy,
+) -> Result<Option<Handed>, String> {
+    let (points, lengths) = (plate.points.clone(), plate.lengths.clone());
+    let plate = Plate::new(points, lengths, plate.size);
+    let Some(Marked { path, marks }) = retraced(&plate, strategy, ROOM)? else {
+        return Ok(None);
+    };
+    let Plate { points, lengths, .. } = plate;
+    Ok(Some(Handed { points, lengths, path, marks }))
+}
+
 /// The first vertices of the contours, as they are entered.
 fn entries(handed: &Handed) -> Vec<u32> {
     let (marks, _) = handed.marks.as_chunks();
-    let landings = marks.iter().filter(|&&[kind, _]| matches!(kind, START | JUMP | TOUCH));
     let mut firsts = vec![0];
     for &length in handed.lengths.iter().filter(|&&length| length > 0) {
         firsts.push(firsts[firsts.len() - 1] + length);
     }
-    landings.map(|&[_, vertex]| firsts[firsts.partition_point(|&f| f <= vertex) - 1]).collect()
-}
-
-/// The path of the retrace call, unless it is long.
-fn retraced(plate: &Plate, random: &mut Random) -> Result<Option<Handed>, String> {
-    let (points, lengths) = (&plate.points, &plate.lengths);
-    let strategy = random.pick(&[Outside, Inside]);
-    let (mut path, mut marks) = (vec![0.0; 2 * ROOM], vec![0; 2 * ROOM]);
-    let mut work = vec![0; twillharbor::retrace_work(ROOM, points.len() / 2, lengths.len())];
-    let mut distances = vec![0.0; lengths.len()];
-    let outcome = twillharbor::retrace_into(
-        points,
-        lengths,
-        plate.size,
-        strategy,
-        &mut path,
-        &mut marks,
-        &mut work,
-        &mut distances,
-    );
-    match outcome {
-        Ok(totals) => {
-            path.truncate(2 * totals.counts.points);
-            marks.truncate(2 * totals.counts.points);
-            Ok(Some(Handed { points: points.clone(), lengths: lengths.clone(), path, marks }))
-        }
-        Err(Refusal::Full { .. }) => Ok(None),
-        Err(refusal) => Err(format!("retrace of a sound plate: {refusal}")),
-    }
-}
-
-fn drawn_otherwise(plate: &Plate, random: &mut Random) -> Handed {
-    let (points, lengths) = (&plate.points, &plate.lengths);
-    if points.len() / 2 > LARGE {
-        plain_path(points, lengths, random)
-    } else {
-        other_path(points, lengths, random)
-    }
+    let first_of = |vertex| firsts[firsts.partition_point(|&first| first <= vertex) - 1];
+    landings(marks).into_iter().map(first_of).collect()
 }
 
 /// One damage, or two.
@@ -309,7 +256,7 @@ fn damaged_copy(handed: &Handed, met: &Met, random: &mut Random) -> Result<(), S
     let is_altered =
         copy.path.iter().map(|c| c.to_bits()).ne(handed.path.iter().map(|c| c.to_bits()))
             || copy.marks != handed.marks;
-    met.count_if(is_altered && copy.due(work) == Due::Accepted, Case::HarmlessDamage);
+    met.cases.count_if(is_altered && copy.due(work) == Due::Accepted, Case::HarmlessDamage);
     check(&copy, work, met, random)?;
     wrapped(&copy)
 }
@@ -353,20 +300,15 @@ fn check(handed: &Handed, work: usize, met: &Met, random: &mut Random) -> Result
             &format!("{name}: library {:?}, due {due:?}", (is.number, is.place)),
         ));
     }
-    let free = is.number == 0 || is.number == 12;
-    let altered = [
+    let is_free = is.number == 0 || is.number == 12;
+    lent_slices::hold([
         ("points", points.altered()),
         ("lengths", lengths.altered()),
         ("path", path.altered()),
         ("marks", marks.altered()),
-        ("work", if free { lent.margins_altered() } else { lent.altered() }),
-    ];
-    for (slice, wrong) in altered {
-        if let Some(wrong) = wrong {
-            return Err(described(handed, &format!("{name}: of the {slice}, {wrong}")));
-        }
-    }
-    Ok(())
+        ("work", lent.altered_unless(is_free)),
+    ])
+    .map_err(|wrong| described(handed, &format!("{name}: {wrong}")))
 }
 
 /// The safe interface, where it allocates the work slice itself.
@@ -399,11 +341,8 @@ fn as_long(handed: &Handed) -> Result<(), String> {
 /// The text, with plate and path, the whole of them where that is a few lines.
 fn described(handed: &Handed, text: &str) -> String {
     let Handed { points, lengths, path, marks } = handed;
-    let bits = |numbers: &[f64]| -> String {
-        numbers.iter().map(|c| format!(" {:016x}", c.to_bits())).collect()
-    };
     if points.len() <= 128 && lengths.len() <= 64 && path.len() <= 256 {
-        let (points, path) = (bits(points), bits(path));
+        let (points, path) = (hexadecimal(points), hexadecimal(path));
         format!("{text}\n  lengths {lengths:?}\n  points{points}\n  marks {marks:?}\n  path{path}")
     } else {
         let counts = [points.len(), lengths.len(), path.len(), marks.len()];
@@ -501,30 +440,16 @@ fn small_path(
 
 #[cfg(test)]
 mod tests {
-    use harness::random::Random;
-
-    use super::{CASES, Case, Met, compare, entries, has_other_vertex, small_plates};
-    use crate::drawn::Handed;
+    use super::{Case, Met, compare, entries, has_other_vertex, small_plates};
+    use crate::path_check::Handed;
     use crate::retrace_plates::KINDS;
+    use crate::run::assert_every_kind_agrees;
 
     #[test]
     fn every_kind_agrees() {
-        let mut random = Random::new(1);
         let met = Met::default();
-        for (kind, name) in KINDS {
-            for _ in 0..10 {
-                compare(kind, random.bits(), &met).unwrap_or_else(|e| panic!("{name}: {e}"));
-            }
-        }
-        let numbers = met.cases.numbers();
-        assert!(numbers[Case::Accepted as usize] > 500, "{numbers:?}");
-    }
-
-    #[test]
-    fn the_cases_stand_in_their_order() {
-        for (place, (case, _)) in CASES.into_iter().enumerate() {
-            assert_eq!(case as usize, place);
-        }
+        assert_every_kind_agrees(&KINDS, 10, |kind, random| compare(kind, random.bits(), &met));
+        assert!(met.cases.number(Case::Accepted) > 500, "{met:?}");
     }
 
     #[test]

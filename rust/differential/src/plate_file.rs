@@ -1,6 +1,8 @@
 //! The plate file as document 02's ticket 2 words it: the file of a path, what a file is read as,
 //! and the refusals of both calls.
 
+use crate::tally::Listed;
+
 /// Bytes to a block.
 pub const BLOCK: usize = 512;
 /// Points that a block has places for.
@@ -37,6 +39,10 @@ pub const WRONGS: [(Wrong, &str); 7] = [
     (Wrong::Count, "the count"),
     (Wrong::Coordinate, "a coordinate"),
 ];
+
+impl Listed for Wrong {
+    const LIST: &'static [(Self, &'static str)] = &WRONGS;
+}
 
 /// Whether each of [`WRONGS`] is.
 pub type Faults = [bool; WRONGS.len()];

@@ -1,5 +1,7 @@
 //! Plates of many kinds, and damaged copies of them.
 
+use std::fmt;
+
 use harness::plates::in_rows;
 use harness::random::Random;
 use twillharbor::Size;
@@ -28,6 +30,18 @@ impl Plate {
     pub fn new(points: Vec<f64>, lengths: Vec<u32>, size: Size) -> Self {
         let layers = vec![0; lengths.len()];
         Self { points, lengths, layers, size }
+    }
+
+    /// The plate of these contours, every one in layer 0, with its width and height.
+    pub fn of_contours<C: AsRef<[[f64; 2]]>>(contours: &[C], [width, height]: [u32; 2]) -> Self {
+        let points = contours.iter().flat_map(AsRef::as_ref).flatten().copied().collect();
+        let lengths = contours.iter().map(|contour| contour.as_ref().len() as u32).collect();
+        Self::new(points, lengths, Size { width, height })
+    }
+
+    /// The plate with these layers in place of its own.
+    pub fn with_layers(self, layers: &[u32]) -> Self {
+        Self { layers: layers.to_vec(), ..self }
     }
 
     /// The layers of the contours that hold a point.
@@ -93,11 +107,16 @@ pub fn plate(kind: Kind, random: &mut Random) -> Plate {
         lengths.truncate(600);
     }
     let plate = of_lengths(kind, lengths, random);
+    assert_sound(&plate, kind);
+    plate
+}
+
+/// A plate that was made of the kind is not refused.
+pub fn assert_sound(plate: &Plate, kind: impl fmt::Debug) {
     assert!(plate.lengths.len() <= MOST_CONTOURS);
     assert_eq!(plate.points.len() as u32, 2 * plate.lengths.iter().sum::<u32>());
     assert!(plate.lengths.iter().sum::<u32>() <= MOST_POINTS);
     assert!(plate.points.iter().all(|c| c.abs() <= LIMIT), "{kind:?} made {plate:?}");
-    plate
 }
 
 /// A plate of the kind with up to 12 contours and up to 20 points.
@@ -625,7 +644,7 @@ mod tests {
     fn one_layer_is_that_of_the_contours_that_hold_a_point() {
         let plate = |lengths: &[u32], layers: &[u32]| {
             let plate = Plate::new(vec![], lengths.to_vec(), Size::default());
-            Plate { layers: layers.to_vec(), ..plate }.one_layer()
+            plate.with_layers(layers).one_layer()
         };
         assert_eq!(plate(&[1, 0, 2], &[7, 0, 7]), Some(7));
         assert_eq!(plate(&[1, 1, 2], &[7, 0, 7]), None);

@@ -31,11 +31,11 @@ pub mod contours;
 pub mod files;
 mod home;
 mod in_layers;
-mod measured;
+mod length_plates;
 pub mod paths;
 pub mod retrace;
 mod told_apart;
-mod touching;
+mod touch_plates;
 
 use harness::random::Random;
 use twillharbor::StartPointStrategy::{self, Home, Inside, Outside};
@@ -44,9 +44,9 @@ use twillharbor::{Point, Size};
 use crate::distances::{Answer, expected};
 use crate::floats::power;
 use crate::layers;
-use crate::lent::Number;
+use crate::lent_slices::Number;
 use crate::pairs::{self, Pair, pair};
-use crate::parked;
+use crate::parked_points;
 use crate::plates::{self, Damage, Plate, small_plate};
 use crate::reference::results;
 use crate::rule;
@@ -79,6 +79,19 @@ impl Words {
             self.0 += "\n";
         }
     }
+
+    /// What a slice holds.
+    fn slice<T: Number>(&mut self, slice: &[T]) {
+        self.line(slice.iter().map(|number| number.bits()));
+    }
+}
+
+/// The file of these rows, each of which is written in this way.
+fn file_of<R>(rows: &[R], write: impl Fn(&mut Words, &R)) -> String {
+    let mut words = Words::default();
+    words.line([rows.len() as u64]);
+    rows.iter().for_each(|row| write(&mut words, row));
+    words.0
 }
 
 /// The rows of the distance call: document 01's plates H and I, the limit and the numbers
@@ -111,17 +124,16 @@ pub fn distances() -> String {
     for (damage, _) in pairs::DAMAGES {
         pairs.extend((0..PAIRS).map(|_| pairs::damaged(damage, &mut random)));
     }
-    let mut words = Words::default();
-    words.line([pairs.len() as u64]);
-    for pair in pairs {
-        let [ax, ay, bx, by] = pair.map(f64::to_bits);
-        let (number, place, squared, plain) = match expected(pair) {
-            Answer::Apart(squared, plain) => (0, 0, squared, plain),
-            Answer::Refused(number, place) => (number, place, 0, 0),
-        };
-        words.line([ax, ay, bx, by, number.into(), place.into(), squared, plain]);
-    }
-    words.0
+    file_of(&pairs, write_pair)
+}
+
+fn write_pair(words: &mut Words, pair: &Pair) {
+    let [ax, ay, bx, by] = pair.map(f64::to_bits);
+    let (number, place, squared, plain) = match expected(*pair) {
+        Answer::Apart(squared, plain) => (0, 0, squared, plain),
+        Answer::Refused(number, place) => (number, place, 0, 0),
+    };
+    words.line([ax, ay, bx, by, number.into(), place.into(), squared, plain]);
 }
 
 /// A plate and the slices that are lent for it.
@@ -139,11 +151,7 @@ struct Row {
 /// number of each kind of plate, in layers, and of damage. Then come the rows of Home: plates that
 /// the parked point decides, and one of each kind. Last come plates that tell rules apart.
 pub fn plates() -> String {
-    let rows = rows();
-    let mut words = Words::default();
-    words.line([rows.len() as u64]);
-    rows.iter().for_each(|row| write_row(&mut words, row));
-    words.0
+    file_of(&rows(), write_row)
 }
 
 fn rows() -> Vec<Row> {
@@ -171,7 +179,7 @@ fn rows() -> Vec<Row> {
             rows.push(row(copy, [Outside, Inside][turn % 2], turn, random));
         }
     }
-    rows.extend(home_rows());
+    rows.extend(home_rows(15, |_, _| true, row));
     rows.extend(told_apart_rows());
     rows
 }
@@ -194,9 +202,14 @@ fn told_apart_rows() -> Vec<Row> {
     rows
 }
 
-/// Rows with parked points.
-fn home_rows() -> Vec<Row> {
-    let (random, of_layers) = (&mut Random::new(15), &mut Random::new(16));
+/// Rows with parked points: of plates that these decide, and of a plate of each kind that suits with
+/// its point.
+fn home_rows<R>(
+    seed: u64,
+    suits: impl Fn(&Plate, Point) -> bool,
+    row: impl Fn(Plate, StartPointStrategy, usize, &mut Random) -> R,
+) -> Vec<R> {
+    let (random, of_layers) = (&mut Random::new(seed), &mut Random::new(seed + 1));
     let mut rows = Vec::new();
     for (plate, point) in home::sound() {
         rows.push(row(plate, Home(point), 0, random));
@@ -205,8 +218,13 @@ fn home_rows() -> Vec<Row> {
         rows.push(row(plate, Home(point), turn, random));
     }
     for (turn, (kind, _)) in plates::KINDS.into_iter().enumerate() {
-        let plate = layers::in_layers(small_plate(kind, random), of_layers);
-        let point = parked::on_the_plate(&plate, random);
+        let (plate, point) = loop {
+            let plate = layers::in_layers(small_plate(kind, random), of_layers);
+            let point = parked_points::on_the_plate(&plate, random);
+            if suits(&plate, point) {
+                break (plate, point);
+            }
+        };
         rows.push(row(plate, Home(point), turn, random));
     }
     rows
@@ -257,7 +275,6 @@ fn row(plate: Plate, strategy: StartPointStrategy, turn: usize, random: &mut Ran
 }
 
 fn fixed() -> Vec<Plate> {
-    type Contours = &'static [&'static [(f64, f64)]];
     const LIMIT: f64 = plates::LIMIT;
     const BEYOND: f64 = LIMIT.next_up();
     const TINY: f64 = 1.0 / 134_217_728.0;
@@ -297,6 +314,9 @@ fn fixed() -> Vec<Plate> {
     let plates = plates.map(|(contours, width, height)| plate_of(contours, Size { width, height }));
     [&plates[..], &refused_plates()].concat()
 }
+
+/// Contours as they are written out.
+type Contours = &'static [&'static [(f64, f64)]];
 
 fn plate_of(contours: &[&[(f64, f64)]], size: Size) -> Plate {
     let points = contours.concat().iter().flat_map(|&(x, y)| [x, y]).collect();
@@ -357,9 +377,9 @@ fn write_plate(words: &mut Words, plate: &Plate, strategy: StartPointStrategy, s
     let numbers = [size.width.into(), size.height.into(), strategy];
     let slices = slices.iter().map(|&length| length as u64);
     words.line(counts.into_iter().chain(numbers).chain(slices).chain(parked));
-    words.line(points.iter().map(|c| c.bits()));
-    words.line(lengths.iter().map(|n| n.bits()));
-    words.line(layers.iter().map(|n| n.bits()));
+    words.slice(points);
+    words.slice(lengths);
+    words.slice(layers);
 }
 
 fn write_outcome<T: Number>(
@@ -369,10 +389,15 @@ fn write_outcome<T: Number>(
     fill: T,
 ) {
     words.line(answer.map(u64::from));
-    let mut after = vec![fill; slice];
-    let written = written.as_flattened();
-    after[..written.len()].copy_from_slice(written);
-    words.line(after.into_iter().map(Number::bits));
+    words.slice(&after(written.as_flattened(), slice, fill));
+}
+
+/// A slice of that length as a call leaves it that was filled before: what was written stands at its
+/// start.
+fn after<T: Copy>(written: &[T], length: usize, fill: T) -> Vec<T> {
+    let mut slice = vec![fill; length];
+    slice[..written.len()].copy_from_slice(written);
+    slice
 }
 
 #[cfg(test)]
@@ -400,6 +425,36 @@ mod tests {
             u64::from_str_radix(digits, 16).expect("they are sixteen")
         };
         words.iter().map(word).collect()
+    }
+
+    /// A plate as it is read from a row.
+    pub struct Read {
+        pub points: Vec<f64>,
+        pub lengths: Vec<u32>,
+        pub layers: Vec<u32>,
+        /// Width and height.
+        pub size: [u32; 2],
+        pub inside: bool,
+        /// The parked point, if the strategy is Home.
+        pub home: Option<[f64; 2]>,
+    }
+
+    /// Reads a plate as a program without Rust would, and the lengths of the slices lent for it.
+    pub fn read_plate<const N: usize>(mut next: impl FnMut() -> u64) -> (Read, [usize; N]) {
+        let [coordinates, contours, layers] = [(); 3].map(|()| next() as usize);
+        assert!(coordinates <= MOST_COORDINATES && contours <= MOST_LENGTHS);
+        assert!(layers <= MOST_LAYERS);
+        let size = [(); 2].map(|()| u32::try_from(next()).unwrap());
+        let strategy = next();
+        assert!(strategy <= 2, "strategy {strategy}");
+        let slices = [(); N].map(|()| next() as usize);
+        let parked = [(); 2].map(|()| f64::from_bits(next()));
+        let home = (strategy == 2).then_some(parked);
+        assert!(home.is_some() || parked.map(f64::to_bits) == [0, 0]);
+        let points = (0..coordinates).map(|_| f64::from_bits(next())).collect();
+        let [lengths, layers] = [contours, layers]
+            .map(|count| (0..count).map(|_| u32::try_from(next()).unwrap()).collect());
+        (Read { points, lengths, layers, size, inside: strategy == 1, home }, slices)
     }
 
     #[test]
@@ -435,22 +490,11 @@ mod tests {
         let rows = next();
         let (mut numbers, mut of_home) = ([[0; 14]; 3], [0; 14]);
         for _ in 0..rows {
-            let [coordinates, contours, layers] = [(); 3].map(|()| next() as usize);
-            let [width, height] = [(); 2].map(|()| u32::try_from(next()).unwrap());
-            let strategy = next();
-            assert!(strategy <= 2, "strategy {strategy}");
-            let (home, inside) = (strategy == 2, strategy == 1);
-            let [order, path, work] = [(); 3].map(|()| next() as usize);
-            let [x, y] = [(); 2].map(|()| f64::from_bits(next()));
-            assert!(home || [x, y].map(f64::to_bits) == [0, 0]);
-            assert!(coordinates <= MOST_COORDINATES && contours <= MOST_LENGTHS);
-            assert!(layers <= MOST_LAYERS);
+            let (plate, [order, path, work]) = read_plate(&mut next);
+            let Read { points, lengths, layers, size: [width, height], inside, home } = plate;
             assert!(order.max(path).max(work) <= MOST_ELEMENTS);
-            let points: Vec<f64> = (0..coordinates).map(|_| f64::from_bits(next())).collect();
-            let [lengths, layers]: [Vec<u32>; 2] = [contours, layers]
-                .map(|count| (0..count).map(|_| u32::try_from(next()).unwrap()).collect());
 
-            let r = if home {
+            let r = if let Some([x, y]) = home {
                 c::start_home(&points, &lengths, &layers, x, y)
             } else {
                 c::start(&points, &lengths, &layers, width, height, inside)
@@ -458,12 +502,12 @@ mod tests {
             let answer = [r.number, r.place, r.contour, r.reversed].map(u64::from);
             assert_eq!(answer, [(); 4].map(|()| next()));
             numbers[0][r.number as usize] += 1;
-            of_home[r.number as usize] += u32::from(home);
+            of_home[r.number as usize] += u32::from(home.is_some());
 
             let mut slice = vec![ORDER_FILL; order];
             let mut lent = vec![7; work];
             let (slice_lent, work) = (&mut slice, &mut lent);
-            let r = if home {
+            let r = if let Some([x, y]) = home {
                 c::order_home(&points, &lengths, &layers, x, y, slice_lent, work)
             } else {
                 c::order(&points, &lengths, &layers, width, height, inside, slice_lent, work)
@@ -474,7 +518,7 @@ mod tests {
 
             let mut slice = vec![PATH_FILL; path];
             let (slice_lent, work) = (&mut slice, &mut lent);
-            let r = if home {
+            let r = if let Some([x, y]) = home {
                 c::straight_home(&points, &lengths, &layers, x, y, slice_lent, work)
             } else {
                 c::straight(&points, &lengths, &layers, width, height, inside, slice_lent, work)

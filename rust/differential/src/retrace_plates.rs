@@ -1,19 +1,18 @@
 //! Plates for the retrace call: those of `plates`, others that lie at the edges of what its grid,
-//! its search and its samples decide, those of `passed_over` among them, those of `quoted`, and
-//! those of `meeting`.
+//! its search and its samples decide, those of `passed_over` among them, those of `path_lengths`, and
+//! those of `meeting_plates`.
 
 use harness::plates::{falling_layers, in_rows, rows as rows_of, touching_rows};
 use harness::random::Random;
 use twillharbor::Size;
 
 use crate::floats::nudged;
-use crate::meeting::{self, MEETINGS, Meeting};
+use crate::meeting_plates::{self, MEETINGS, Meeting};
 use crate::passed_over;
-use crate::plates::{
-    self, LIMIT, MOST_CONTOURS, MOST_POINTS, Plate, all_contours, all_points, of_lengths, up_to,
-};
-use crate::quoted;
+use crate::path_lengths;
+use crate::plates::{self, LIMIT, MOST_POINTS, Plate, all_contours, all_points, of_lengths, up_to};
 use crate::rule::retrace::Grid;
+use crate::run::{self, Plan};
 
 /// How the points of a plate lie.
 #[derive(Debug, Clone, Copy, PartialEq, Eq)]
@@ -39,7 +38,7 @@ const MORE: [(Kind, &str); 7] = [
     (Kind::Lengths, "points that are whole numbers of 1,024ths apart, or nearly"),
 ];
 
-/// Where the plates of `meeting` begin among all kinds.
+/// Where the plates of `meeting_plates` begin among all kinds.
 const FIRST_MEETING: usize = plates::KINDS.len() + MORE.len();
 
 pub const KINDS: [(Kind, &str); FIRST_MEETING + MEETINGS.len()] = {
@@ -77,13 +76,10 @@ pub fn plate(kind: Kind, random: &mut Random) -> Plate {
         Kind::CellSteps => framed(steps, random),
         Kind::Scattered => scattered(random),
         Kind::Rows => rows(random),
-        Kind::Lengths => quoted::plate(random),
-        Kind::Meeting(meeting) => meeting::plate(meeting, random),
+        Kind::Lengths => path_lengths::plate(random),
+        Kind::Meeting(meeting) => meeting_plates::plate(meeting, random),
     };
-    assert!(plate.lengths.len() <= MOST_CONTOURS);
-    assert_eq!(plate.points.len() as u32, 2 * plate.lengths.iter().sum::<u32>());
-    assert!(plate.lengths.iter().sum::<u32>() <= MOST_POINTS);
-    assert!(plate.points.iter().all(|c| c.abs() <= LIMIT), "{kind:?} made {plate:?}");
+    plates::assert_sound(&plate, kind);
     plate
 }
 
@@ -157,15 +153,7 @@ fn framed(draw: Draw, random: &mut Random) -> Plate {
         contours.splice(at..at, [vec![frame.least], vec![], vec![frame.greatest]]);
     }
     let size = random.pick(&[[0, 0], [1, 0], [100, 100], [7, 64], [1_000, 1]]);
-    of_contours(&contours, size)
-}
-
-fn of_contours(contours: &[Vec<[f64; 2]>], [width, height]: [u32; 2]) -> Plate {
-    Plate::new(
-        contours.concat().into_flattened(),
-        contours.iter().map(|contour| contour.len() as u32).collect(),
-        Size { width, height },
-    )
+    Plate::of_contours(&contours, size)
 }
 
 /// Points within a few cells of one another, at the cells' edges and corners.
@@ -228,7 +216,7 @@ fn ring_bounds(random: &mut Random) -> Plate {
     for [x, y] in contours.iter_mut().flatten() {
         (*x, *y) = if turned { (sign * *y, sign * *x) } else { (sign * *x, sign * *y) };
     }
-    of_contours(&contours, random.pick(&[[0, 0], [1, 1], [100, 0], [2_000, 2_000]]))
+    Plate::of_contours(&contours, random.pick(&[[0, 0], [1, 1], [100, 0], [2_000, 2_000]]))
 }
 
 /// A contour whose segments add up to whole cells, or nearly.
@@ -262,7 +250,7 @@ fn scattered(random: &mut Random) -> Plate {
             })]
         })
         .collect();
-    of_contours(&contours, random.pick(&[[0, 0], [10, 10], [1_000, 1_000]]))
+    Plate::of_contours(&contours, random.pick(&[[0, 0], [10, 10], [1_000, 1_000]]))
 }
 
 /// Document 02's rows, as they are or scaled.
@@ -289,7 +277,7 @@ fn rows(random: &mut Random) -> Plate {
             points.map(|point| point.map(|c| c * spacing + shift)).collect()
         })
         .collect();
-    of_contours(&contours, random.pick(&[[0, 0], [0, 0], [50, 50], [1_000, 10]]))
+    Plate::of_contours(&contours, random.pick(&[[0, 0], [0, 0], [50, 50], [1_000, 10]]))
 }
 
 /// Plates that every run has: large ones, and one whose path has too many points.
@@ -346,7 +334,16 @@ fn alternating_layers(contours: usize) -> Vec<u32> {
     [0, 1].into_iter().cycle().take(contours).collect()
 }
 
-pub fn large_plate(large: Large, random: &mut Random) -> Plate {
+/// Runs each of the large plates.
+pub fn run_large(
+    plan: Plan,
+    case: impl Fn(Large, &Plate, &mut Random) -> Result<(), String> + Sync,
+) -> bool {
+    println!("large plates: {}, seed {}", LARGE.len(), plan.seed);
+    run::run_each(plan, &LARGE, |large, random| case(large, &large_plate(large, random), random))
+}
+
+fn large_plate(large: Large, random: &mut Random) -> Plate {
     let (points, lengths) = match large {
         Large::RowsInLayers([contours, points, per_row], layers) => {
             let plate = large_plate(Large::Rows([contours, points, per_row], 1.0), random);
@@ -360,7 +357,7 @@ pub fn large_plate(large: Large, random: &mut Random) -> Plate {
         Large::TouchingRows([contours, points, per_row]) => {
             touching_rows(contours, points, per_row)
         }
-        Large::Meeting(meeting, many) => return meeting::large(meeting, many, random),
+        Large::Meeting(meeting, many) => return meeting_plates::large(meeting, many, random),
         Large::Random([contours, points]) => {
             let coordinates = (0..2 * contours * points).map(|_| random.unit() * 1_000.0);
             (coordinates.collect(), vec![points as u32; contours])

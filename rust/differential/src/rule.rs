@@ -362,12 +362,7 @@ mod tests {
     }
 
     fn plate(points: &[f64], lengths: &[u32], layers: &[u32]) -> Plate {
-        Plate {
-            points: points.to_vec(),
-            lengths: lengths.to_vec(),
-            layers: layers.to_vec(),
-            size: Size::default(),
-        }
+        Plate::new(points.to_vec(), lengths.to_vec(), Size::default()).with_layers(layers)
     }
 
     #[test]

@@ -2,7 +2,7 @@
 
 use std::ops::Range;
 use std::sync::Mutex;
-use std::sync::atomic::{AtomicBool, AtomicU64, Ordering};
+use std::sync::atomic::{AtomicBool, AtomicU64, AtomicUsize, Ordering};
 use std::thread;
 
 use harness::random::Random;
@@ -16,15 +16,22 @@ pub struct Plan {
 }
 
 /// Cases that share a stream of random numbers: so threads do not change what is run.
-const CHUNK: u64 = 4096;
+pub const CHUNK: u64 = 4096;
 /// How many differences are printed.
 const SHOWN: usize = 10;
 
-#[derive(Debug, Default)]
+#[derive(Debug)]
 struct Tally {
     ran: Vec<u64>,
     different: Vec<u64>,
     shown: Vec<String>,
+}
+
+impl Tally {
+    /// Of that many kinds.
+    fn of(kinds: usize) -> Self {
+        Self { ran: vec![0; kinds], different: vec![0; kinds], shown: Vec::new() }
+    }
 }
 
 /// Runs the plan's cases, the kinds in turn, prints how many of each kind ran and differed,
@@ -47,11 +54,7 @@ pub fn run_in_chunks<K: Copy + Sync>(
 ) -> bool {
     let next = AtomicU64::new(0);
     let stop = AtomicBool::new(false);
-    let whole = Mutex::new(Tally {
-        ran: vec![0; kinds.len()],
-        different: vec![0; kinds.len()],
-        shown: Vec::new(),
-    });
+    let whole = Mutex::new(Tally::of(kinds.len()));
     let work = || {
         while !stop.load(Ordering::Relaxed) {
             let chunk = next.fetch_add(1, Ordering::Relaxed);
@@ -88,6 +91,46 @@ pub fn run_in_chunks<K: Copy + Sync>(
     whole.shown.is_empty()
 }
 
+/// Runs cases that are each made from a seed of their own, `size` to a stream of random numbers. A
+/// difference is told with the command, named `again`, that runs its case alone.
+pub fn run_seeded<K: Copy + PartialEq + Sync>(
+    plan: Plan,
+    size: u64,
+    kinds: &[(K, &str)],
+    again: &str,
+    case: impl Fn(K, u64) -> Result<(), String> + Sync,
+) -> bool {
+    run_in_chunks(plan, size, kinds, |kind, random| {
+        let seed = random.bits();
+        case(kind, seed).map_err(|e| {
+            let number = number_of(&kind, kinds);
+            format!("{e}\n  again: differential {again} --kind {number} --seed {seed}")
+        })
+    })
+}
+
+/// Runs each of these kinds once, however many cases the plan has.
+pub fn run_each<K: Copy + Sync>(
+    plan: Plan,
+    kinds: &[(K, &str)],
+    case: impl Fn(K, &mut Random) -> Result<(), String> + Sync,
+) -> bool {
+    run_in_chunks(Plan { pairs: kinds.len() as u64, ..plan }, 1, kinds, case)
+}
+
+/// Runs as many cases of one name, each of which is told its number, from 0.
+pub fn run_numbered(
+    plan: Plan,
+    count: usize,
+    name: &str,
+    case: impl Fn(usize) -> Result<(), String> + Sync,
+) -> bool {
+    let next = AtomicUsize::new(0);
+    run_in_chunks(Plan { pairs: count as u64, ..plan }, 1, &[((), name)], |(), _| {
+        case(next.fetch_add(1, Ordering::Relaxed))
+    })
+}
+
 /// Runs one case again, of the kind with this number, and says whether it did not differ.
 pub fn run_one<K: Copy>(
     kind: u64,
@@ -104,7 +147,7 @@ pub fn run_one<K: Copy>(
 }
 
 /// The number of a kind, by which one of its cases is run again.
-pub fn number_of<K: PartialEq>(kind: &K, kinds: &[(K, &str)]) -> usize {
+fn number_of<K: PartialEq>(kind: &K, kinds: &[(K, &str)]) -> usize {
     kinds.iter().position(|(known, _)| known == kind).expect("it is one of them")
 }
 
@@ -114,8 +157,7 @@ fn chunk_of<K: Copy>(
     case: &impl Fn(K, &mut Random) -> Result<(), String>,
     mut random: Random,
 ) -> Tally {
-    let mut tally =
-        Tally { ran: vec![0; kinds.len()], different: vec![0; kinds.len()], shown: Vec::new() };
+    let mut tally = Tally::of(kinds.len());
     for number in cases {
         let k = (number % kinds.len() as u64) as usize;
         let (kind, name) = kinds[k];
@@ -130,12 +172,27 @@ fn chunk_of<K: Copy>(
     tally
 }
 
+/// Runs so many cases of each kind, and panics at the first difference.
+#[cfg(test)]
+pub fn assert_every_kind_agrees<K: Copy>(
+    kinds: &[(K, &str)],
+    times: usize,
+    mut case: impl FnMut(K, &mut Random) -> Result<(), String>,
+) {
+    let random = &mut Random::new(1);
+    for &(kind, name) in kinds {
+        for _ in 0..times {
+            case(kind, random).unwrap_or_else(|e| panic!("{name}: {e}"));
+        }
+    }
+}
+
 #[cfg(test)]
 mod tests {
     use std::collections::BTreeSet;
     use std::sync::Mutex;
 
-    use super::{CHUNK, Plan, number_of, run, run_one};
+    use super::{CHUNK, Plan, number_of, run, run_numbered, run_one};
 
     #[test]
     fn one_difference_fails_the_run() {
@@ -157,6 +214,19 @@ mod tests {
         assert_eq!(number_of(&6, &kinds), 1);
         assert_eq!([0, 1].map(|number| run_one(number, &kinds, case)), [Ok(true), Ok(false)]);
         assert!(run_one(2, &kinds, case).is_err());
+    }
+
+    #[test]
+    fn each_number_comes_once() {
+        let plan = Plan { pairs: 0, seed: 1, threads: 2 };
+        let seen = Mutex::new(Vec::new());
+        assert!(run_numbered(plan, 9, "all", |number| {
+            seen.lock().unwrap().push(number);
+            Ok(())
+        }));
+        let mut seen = seen.into_inner().unwrap();
+        seen.sort_unstable();
+        assert_eq!(seen, (0..9).collect::<Vec<_>>());
     }
 
     #[test]

@@ -1,7 +1,5 @@
 //! The contours call on every small path with marks.
 
-use std::sync::atomic::{AtomicUsize, Ordering};
-
 use twillharbor::c;
 
 use crate::contours::described;
@@ -58,12 +56,11 @@ pub fn run(plan: Plan) -> bool {
     for points in TO_AND_FRO {
         starts.extend(marks(&LOW_REFERENCES).map(|mark| (Paths::Longer(points), mark)));
     }
-    let plan = Plan { pairs: starts.len() as u64, ..plan };
-    println!("small paths: from {} first marks", plan.pairs);
-    let (next, calls) = (AtomicUsize::new(0), Calls::default());
-    let kinds = [((), "first marks, with every small path")];
-    let same = run::run_in_chunks(plan, 1, &kinds, |(), _| {
-        let (paths, mark) = starts[next.fetch_add(1, Ordering::Relaxed)];
+    println!("small paths: from {} first marks", starts.len());
+    let calls = Calls::default();
+    let name = "first marks, with every small path";
+    let same = run::run_numbered(plan, starts.len(), name, |number| {
+        let (paths, mark) = starts[number];
         from_mark(paths, mark, &calls)
             .map_err(|e| format!("{e}\n  again: differential contours --plates 0 --seed 1"))
     });

@@ -6,9 +6,9 @@ use std::sync::atomic::{AtomicU64, Ordering};
 use crate::plates::Plate;
 use crate::rule::Retrace;
 use crate::rule::retrace::{BACK_STEP, CUT, JUMP, TOUCH};
-use crate::tally::{Tally, is_met};
+use crate::tally::{Cases, Listed, is_met};
 
-/// What a run meets, in the order of [`CASES`].
+/// What a run meets.
 #[derive(Debug, Clone, Copy, PartialEq, Eq)]
 pub enum Case {
     EndOnEnd,
@@ -40,35 +40,37 @@ pub enum Case {
     FullAfter,
 }
 
-pub const CASES: [(Case, &str); 27] = [
-    (Case::EndOnEnd, "touches: an end on an end"),
-    (Case::EndOnMiddle, "touches: an end on a point between ends"),
-    (Case::MiddleOnEnd, "touches: a point between ends on an end"),
-    (Case::MiddleOnMiddle, "touches: a point between ends on another"),
-    (Case::PointOnPoint, "touches: a single point on a single point"),
-    (Case::ThirdAtOnePoint, "touches: where a touch landed before"),
-    (Case::ClosedOnClosed, "touches: a closed contour on a closed one"),
-    (Case::AfterAWalkBack, "touches: after a walk back"),
-    (Case::WalkedBackOver, "touches: from a point walked back over before"),
-    (Case::OfAHigherLayer, "touches: of a contour of a higher layer"),
-    (Case::OtherZeroX, "touches: 0 and -0 along x alone"),
-    (Case::OtherZeroY, "touches: 0 and -0 along y alone"),
-    (Case::OtherZeroBoth, "touches: 0 and -0 along both"),
-    (Case::Hundred, "paths with a hundred touches or more"),
-    (Case::TouchesAlone, "paths with two touches or more, and no jump"),
-    (Case::NoDistance, "jumps: squared distance 0"),
-    (Case::LeastApart, "jumps: 0 and 2^-1074 along one axis, equal along the other"),
-    (Case::EqualX, "jumps: equal along x"),
-    (Case::EqualY, "jumps: equal along y"),
-    (Case::Exchanged, "jumps: each x is the other's y"),
-    (Case::OneStepApart, "jumps: neighbouring numbers along one axis, equal along the other"),
-    (Case::EqualPassedOver, "jumps: the path has a point that equals the landing"),
-    (Case::MeetElsewhere, "jumps: the path has a point that equals another of the contour"),
-    (Case::EqualCut, "cuts between equal points"),
-    (Case::EqualBackStep, "back-steps between equal points"),
-    (Case::FullBefore, "6: the path is cut off before a touch"),
-    (Case::FullAfter, "6: the path is cut off after a touch"),
-];
+impl Listed for Case {
+    const LIST: &'static [(Self, &'static str)] = &[
+        (Self::EndOnEnd, "touches: an end on an end"),
+        (Self::EndOnMiddle, "touches: an end on a point between ends"),
+        (Self::MiddleOnEnd, "touches: a point between ends on an end"),
+        (Self::MiddleOnMiddle, "touches: a point between ends on another"),
+        (Self::PointOnPoint, "touches: a single point on a single point"),
+        (Self::ThirdAtOnePoint, "touches: where a touch landed before"),
+        (Self::ClosedOnClosed, "touches: a closed contour on a closed one"),
+        (Self::AfterAWalkBack, "touches: after a walk back"),
+        (Self::WalkedBackOver, "touches: from a point walked back over before"),
+        (Self::OfAHigherLayer, "touches: of a contour of a higher layer"),
+        (Self::OtherZeroX, "touches: 0 and -0 along x alone"),
+        (Self::OtherZeroY, "touches: 0 and -0 along y alone"),
+        (Self::OtherZeroBoth, "touches: 0 and -0 along both"),
+        (Self::Hundred, "paths with a hundred touches or more"),
+        (Self::TouchesAlone, "paths with two touches or more, and no jump"),
+        (Self::NoDistance, "jumps: squared distance 0"),
+        (Self::LeastApart, "jumps: 0 and 2^-1074 along one axis, equal along the other"),
+        (Self::EqualX, "jumps: equal along x"),
+        (Self::EqualY, "jumps: equal along y"),
+        (Self::Exchanged, "jumps: each x is the other's y"),
+        (Self::OneStepApart, "jumps: neighbouring numbers along one axis, equal along the other"),
+        (Self::EqualPassedOver, "jumps: the path has a point that equals the landing"),
+        (Self::MeetElsewhere, "jumps: the path has a point that equals another of the contour"),
+        (Self::EqualCut, "cuts between equal points"),
+        (Self::EqualBackStep, "back-steps between equal points"),
+        (Self::FullBefore, "6: the path is cut off before a touch"),
+        (Self::FullAfter, "6: the path is cut off after a touch"),
+    ];
+}
 
 /// A run of as many plates meets every case.
 const ENOUGH: u64 = 5_000;
@@ -82,7 +84,7 @@ pub struct Seen {
     paths: AtomicU64,
     jumps: AtomicU64,
     touches: AtomicU64,
-    cases: Tally<{ CASES.len() }>,
+    cases: Cases<Case>,
 }
 
 /// A jump or a touch: the path place and vertex that are left, and the vertex landed on.
@@ -183,12 +185,6 @@ impl<'a> Path<'a> {
 }
 
 impl Seen {
-    fn count_if(&self, holds: bool, case: Case) {
-        if holds {
-            self.cases.count(case as usize);
-        }
-    }
-
     /// The path of a plate, or its beginning.
     pub fn path(&self, plate: &Plate, due: &Retrace) {
         let mut path = Path::new(plate, due);
@@ -201,8 +197,8 @@ impl Seen {
                 match kind {
                     JUMP => self.jump(&path, entry),
                     TOUCH => self.touch(&path, entry),
-                    CUT => self.count_if(equal, Case::EqualCut),
-                    _ => self.count_if(equal, Case::EqualBackStep),
+                    CUT => self.cases.count_if(equal, Case::EqualCut),
+                    _ => self.cases.count_if(equal, Case::EqualBackStep),
                 }
             }
             entries[0] += u64::from(kind == JUMP);
@@ -213,8 +209,8 @@ impl Seen {
         self.paths.fetch_add(1, Ordering::Relaxed);
         self.jumps.fetch_add(jumps, Ordering::Relaxed);
         self.touches.fetch_add(touches, Ordering::Relaxed);
-        self.count_if(touches >= 100, Case::Hundred);
-        self.count_if(touches >= 2 && jumps == 0 && due.whole, Case::TouchesAlone);
+        self.cases.count_if(touches >= 100, Case::Hundred);
+        self.cases.count_if(touches >= 2 && jumps == 0 && due.whole, Case::TouchesAlone);
     }
 
     fn touch(&self, path: &Path, entry: Entry) {
@@ -226,20 +222,20 @@ impl Seen {
             [_, Part::Middle] => Case::MiddleOnEnd,
             _ => Case::EndOnEnd,
         };
-        self.count_if(true, case);
+        self.cases.count(case);
         let (walked, to) = path.walk_back(entry);
         let came = path.due.marks[to][0];
-        self.count_if(walked, Case::AfterAWalkBack);
-        self.count_if(came == BACK_STEP, Case::WalkedBackOver);
-        self.count_if(came == TOUCH, Case::ThirdAtOnePoint);
+        self.cases.count_if(walked, Case::AfterAWalkBack);
+        self.cases.count_if(came == BACK_STEP, Case::WalkedBackOver);
+        self.cases.count_if(came == TOUCH, Case::ThirdAtOnePoint);
         let closed = path.is_closed(left) && path.is_closed(landing);
-        self.count_if(closed, Case::ClosedOnClosed);
-        self.count_if(path.layer(landing) > path.layer(left), Case::OfAHigherLayer);
+        self.cases.count_if(closed, Case::ClosedOnClosed);
+        self.cases.count_if(path.layer(landing) > path.layer(left), Case::OfAHigherLayer);
         let [a, b] = [left, landing].map(|vertex| path.vertices[vertex].map(f64::to_bits));
         let zeros = [a[0] != b[0], a[1] != b[1]];
-        self.count_if(zeros == [true, false], Case::OtherZeroX);
-        self.count_if(zeros == [false, true], Case::OtherZeroY);
-        self.count_if(zeros == [true, true], Case::OtherZeroBoth);
+        self.cases.count_if(zeros == [true, false], Case::OtherZeroX);
+        self.cases.count_if(zeros == [false, true], Case::OtherZeroY);
+        self.cases.count_if(zeros == [true, true], Case::OtherZeroBoth);
     }
 
     fn jump(&self, path: &Path, entry: Entry) {
@@ -247,28 +243,28 @@ impl Seen {
         let [x, y] = [left[0] == landing[0], left[1] == landing[1]];
         let apart = [left[0] - landing[0], left[1] - landing[1]];
         let squared = apart[0].mul_add(apart[0], apart[1] * apart[1]);
-        self.count_if(squared == 0.0, Case::NoDistance);
-        self.count_if(x, Case::EqualX);
-        self.count_if(y, Case::EqualY);
-        self.count_if(left == [landing[1], landing[0]], Case::Exchanged);
+        self.cases.count_if(squared == 0.0, Case::NoDistance);
+        self.cases.count_if(x, Case::EqualX);
+        self.cases.count_if(y, Case::EqualY);
+        self.cases.count_if(left == [landing[1], landing[0]], Case::Exchanged);
         if x || y {
             let [a, b] = if x { [left[1], landing[1]] } else { [left[0], landing[0]] };
             let least = f64::from_bits(1);
-            self.count_if(a * b == 0.0 && (a + b).abs() == least, Case::LeastApart);
+            self.cases.count_if(a * b == 0.0 && (a + b).abs() == least, Case::LeastApart);
             let neighbours = a.next_up() == b || b.next_up() == a;
-            self.count_if(neighbours && a.is_normal() && b.is_normal(), Case::OneStepApart);
+            self.cases.count_if(neighbours && a.is_normal() && b.is_normal(), Case::OneStepApart);
         }
-        self.count_if(path.has(entry.landing), Case::EqualPassedOver);
+        self.cases.count_if(path.has(entry.landing), Case::EqualPassedOver);
         let [_, first, last] = path.contours[entry.landing];
         let elsewhere = !path.has(entry.landing) && (first..=last).any(|vertex| path.has(vertex));
-        self.count_if(elsewhere, Case::MeetElsewhere);
+        self.cases.count_if(elsewhere, Case::MeetElsewhere);
     }
 
     /// The path did not fit: that many points of it were written.
     pub fn full(&self, due: &Retrace, written: usize) {
         let is_touch = |mark: Option<&[u32; 2]>| mark.is_some_and(|mark| mark[0] == TOUCH);
-        self.count_if(is_touch(due.marks.get(written)), Case::FullBefore);
-        self.count_if(is_touch(due.marks[..written].last()), Case::FullAfter);
+        self.cases.count_if(is_touch(due.marks.get(written)), Case::FullBefore);
+        self.cases.count_if(is_touch(due.marks[..written].last()), Case::FullAfter);
     }
 
     /// Prints how many paths, jumps and touches there were and how often each case was met, and
@@ -277,8 +273,8 @@ impl Seen {
         let [paths, jumps, touches] =
             [&self.paths, &self.jumps, &self.touches].map(|n| n.load(Ordering::Relaxed));
         println!("in {paths} paths: {jumps} jumps, {touches} touches; of these and beside them");
-        self.cases.print(CASES.map(|(_, name)| name));
-        is_met(plates, ENOUGH, self.cases.numbers().into_iter().chain([jumps, touches]))
+        self.cases.print();
+        is_met(plates, ENOUGH, self.cases.numbers().chain([jumps, touches]))
     }
 }
 
@@ -289,29 +285,18 @@ mod tests {
     use twillharbor::Size;
     use twillharbor::StartPointStrategy::Inside;
 
-    use super::{CASES, Case, ENOUGH, Seen};
+    use super::{Case, ENOUGH, Seen};
     use crate::plates::Plate;
     use crate::reference::retrace;
-
-    #[test]
-    fn cases_stand_in_their_order() {
-        for (place, (case, _)) in CASES.into_iter().enumerate() {
-            assert_eq!(case as usize, place);
-        }
-    }
+    use crate::tally::Listed;
 
     /// What is met of a plate from its first contour on, and its jumps and touches.
     fn met(contours: &[&[[f64; 2]]], layers: &[u32]) -> (Vec<Case>, [u64; 2]) {
-        let points = contours.concat().concat();
-        let lengths = contours.iter().map(|contour| contour.len() as u32).collect();
-        let mut plate = Plate::new(points, lengths, Size::default());
-        plate.layers.copy_from_slice(layers);
+        let plate = Plate::of_contours(contours, [0; 2]).with_layers(layers);
         let due = retrace(&plate, Inside, usize::MAX).unwrap().unwrap();
         let seen = Seen::default();
         seen.path(&plate, &due);
-        let cases = CASES.into_iter().zip(seen.cases.numbers());
-        let met = cases.filter(|(_, met)| *met > 0).map(|(case, _)| case.0);
-        (met.collect(), [seen.jumps, seen.touches].map(|n| n.load(Ordering::Relaxed)))
+        (seen.cases.met(), [seen.jumps, seen.touches].map(|n| n.load(Ordering::Relaxed)))
     }
 
     #[test]
@@ -386,7 +371,7 @@ mod tests {
         let met = |written| {
             let seen = Seen::default();
             seen.full(&due, written);
-            [Case::FullBefore, Case::FullAfter].map(|case| seen.cases.numbers()[case as usize])
+            [Case::FullBefore, Case::FullAfter].map(|case| seen.cases.number(case))
         };
         assert_eq!([0, 1, 2, 3].map(met), [[0, 0], [0, 0], [1, 0], [0, 1]]);
     }
@@ -396,12 +381,12 @@ mod tests {
         let seen = Seen::default();
         assert!(seen.print(ENOUGH - 1));
         assert!(!seen.print(ENOUGH));
-        let (last, others) = CASES.split_last().unwrap();
-        others.iter().for_each(|&(case, _)| seen.count_if(true, case));
+        let (last, others) = Case::LIST.split_last().unwrap();
+        others.iter().for_each(|&(case, _)| seen.cases.count(case));
         seen.jumps.store(1, Ordering::Relaxed);
         seen.touches.store(1, Ordering::Relaxed);
         assert!(!seen.print(ENOUGH));
-        seen.count_if(true, last.0);
+        seen.cases.count(last.0);
         assert!(seen.print(ENOUGH));
         seen.jumps.store(0, Ordering::Relaxed);
         assert!(!seen.print(ENOUGH));

@@ -3,10 +3,10 @@
 #![forbid(unsafe_code)]
 
 mod args;
-mod damaged;
+mod damage;
 mod failure;
 mod help;
-mod joined;
+mod joined_plate;
 mod marks;
 mod number;
 mod output;
@@ -15,7 +15,7 @@ mod plate;
 mod plate_file;
 mod quote;
 mod read;
-mod refused;
+mod refusals;
 mod run;
 mod step;
 mod tell;

@@ -1,6 +1,6 @@
 //! Plate files, which hold a path and no marks. The library writes and reads them.
 
-use crate::damaged;
+use crate::damage;
 use crate::failure::Failure;
 use twillharbor::{BLOCK_BYTES, Point, read_file};
 
@@ -22,7 +22,7 @@ pub fn read(name: &str, content: &[u8]) -> Result<PlateFile, Failure> {
     match read_file(content) {
         Ok(path) => Ok(PlateFile { path, blocks: content.len() / BLOCK_BYTES }),
         Err(refusal) => {
-            let why = damaged::why(content, refusal);
+            let why = damage::why(content, refusal);
             Err(Failure::refused(format!("{name}: refused: {refusal}: {why}")))
         }
     }

@@ -1,6 +1,6 @@
 //! The quotation of a joined plate: how long its path is, and how often it runs over its grooves.
 
-use crate::joined::Joined;
+use crate::joined_plate::Joined;
 use crate::passes::Passes;
 use std::collections::BTreeMap;
 use twillharbor::Lengths;

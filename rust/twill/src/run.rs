@@ -2,12 +2,12 @@
 
 use crate::args::{Command, Format, PlateRequest, Request, Source};
 use crate::failure::Failure;
-use crate::joined::Joined;
+use crate::joined_plate::Joined;
 use crate::number::show;
 use crate::plate::{Handed, Plate, Position, Remark, file_name};
 use crate::quote::Quotation;
 use crate::read::Drawing;
-use crate::refused::{Loaded, distance_refused, refused};
+use crate::refusals::{Loaded, distance_refused, refused};
 use crate::{help, marks, output, plate_file, read, step, verify, view, words, write};
 use std::collections::BTreeSet;
 use std::io::Read;

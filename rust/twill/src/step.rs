@@ -5,7 +5,7 @@ mod screen;
 mod state;
 mod terminal;
 
-use crate::joined::Joined;
+use crate::joined_plate::Joined;
 use crate::tell;
 use keys::{Decoder, Key};
 use state::State;

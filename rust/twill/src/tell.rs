@@ -18,7 +18,7 @@
 //! has layers, each line ends in `layer N`. A path of a plate file has lines `0 start AT` and
 //! `N pair FROM -> TO length L`.
 
-use crate::joined::{Joined, Told};
+use crate::joined_plate::{Joined, Told};
 use crate::number;
 use crate::plate::point;
 use twillharbor::{BLOCK_POINTS, PairKind, Point};
@@ -184,7 +184,7 @@ fn mark(joined: &Joined, path_point: usize) -> String {
 #[cfg(test)]
 pub mod tests {
     use super::{details, line, start_details, start_line};
-    use crate::joined::Joined;
+    use crate::joined_plate::Joined;
     use crate::plate::Handed;
     use twillharbor::{Point, Size, StartPointStrategy};
 

@@ -1,7 +1,7 @@
 //! The page of a joined plate: one file that needs nothing else, with all its numbers in a
 //! block that other programs can read.
 
-use crate::joined::Joined;
+use crate::joined_plate::Joined;
 use crate::passes::Passes;
 use crate::plate::word;
 use crate::{number, write};
@@ -145,7 +145,7 @@ fn data(joined: &Joined, name: &str, at: Option<u32>) -> String {
 #[cfg(test)]
 mod tests {
     use super::FIRST_LINE;
-    use crate::joined::Joined;
+    use crate::joined_plate::Joined;
     use crate::number;
     use crate::tell::tests::{joined, layered, of_file, parked};
 

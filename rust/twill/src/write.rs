@@ -5,7 +5,7 @@ mod picture;
 mod quote;
 
 use crate::args::Format;
-use crate::joined::Joined;
+use crate::joined_plate::Joined;
 use crate::number::{json, show};
 use crate::passes::Passes;
 use crate::plate::{self, Handed, word};

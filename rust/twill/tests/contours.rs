@@ -2,24 +2,10 @@
 
 mod common;
 
-use common::Folder;
+use common::{Folder, PATH, PLATE, with_line};
 use std::fs;
 
-/// Plate E, and a point that the path touches.
-const PLATE: &str = "start inside\n(0,0)(4,0)(8,0) | (0,1) | (0,1)\n";
-
-/// Its path, in the text form.
-const PATH: &str = "# made long ago
-0 0 start 0
-4 0 cut 0
-8 0 cut 1
-4 0 back-step 1
-0 0 back-step 0
-0 1 jump 3
-0 1 touch 4 7 # a layer
-";
-
-/// Its picture.
+/// The picture of the path.
 const TEXT: &str = "# 3 contours, 5 points\n0 0\n4 0\n8 0\n\n0 1\n\n0 1\n";
 
 fn folder(name: &str) -> Folder {
@@ -31,9 +17,7 @@ fn folder(name: &str) -> Folder {
 /// What is told, in one line, of the path with line `line`, counted from 0, replaced.
 #[track_caller]
 fn refused(folder: &Folder, line: usize, other: &str) -> String {
-    let mut lines: Vec<&str> = PATH.lines().skip(1).collect();
-    lines[line] = other;
-    folder.put("other.txt", lines.join("\n"));
+    folder.put("other.txt", with_line(line, other));
     let told = folder.twill("contours other.txt -o out").failed(1);
     assert!(!folder.path("out").exists());
     told
@@ -43,7 +27,8 @@ fn refused(folder: &Folder, line: usize, other: &str) -> String {
 fn a_picture_is_written_in_each_form() {
     let folder = folder("forms");
     assert_eq!(folder.twill("contours path.txt").done(), TEXT);
-    assert_eq!(folder.twill_with("contours -", PATH).done(), TEXT);
+    let in_a_layer = PATH.replace("touch 4", "touch 4 7 # a layer");
+    assert_eq!(folder.twill_with("contours -", &in_a_layer).done(), TEXT);
     assert_eq!(
         folder.twill("contours path.txt --format json").done(),
         "{\"contours\":[[[0,0],\n[4,0],\n[8,0]],\n[[0,1]],\n[[0,1]]]}\n"

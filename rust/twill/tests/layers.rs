@@ -229,14 +229,9 @@ fn one_layer_alone_keeps_the_numbers_of_its_contours() {
 fn a_plate_of_empty_contours_has_no_layers_to_tell() {
     let folder = Folder::new("layer-empty");
     folder.put("a.txt", "layer 3\nempty\nempty\n");
-    assert_eq!(
-        folder.twill("check a.txt").done(),
-        "a.txt: accepted: 2 contours, 0 points, 0 by 0, outside\n\
-         retrace: 0 points: 0 cuts, 0 back-steps, 0 jumps, 0 touches\n\
-         lengths: cuts 0 = 0/1024, back-steps 0 = 0/1024, jumps 0 = 0/1024\n\
-         start: blank (refusal 7, place 0)\n"
-    );
     folder.put("plain.txt", "empty\nempty\n");
+    let plain = folder.twill("check plain.txt").done();
+    assert_eq!(folder.twill("check a.txt").done(), plain.replace("plain.txt", "a.txt"));
     for command in ["retrace", "straight", "order"] {
         for format in ["text", "svg"] {
             let written = folder.twill(&format!("{command} a.txt --format {format}")).done();

@@ -1,7 +1,10 @@
 //! Plate files as a user meets them: written, read, shown, and damaged.
 
+#[path = "../../twillharbor/tests/block_checks/mod.rs"]
+mod block_checks;
 mod common;
 
+use block_checks::seal;
 use common::{Folder, Ran};
 use std::fs;
 use std::process::Command;
@@ -14,20 +17,6 @@ const TEXT_E: &str = "# plate file: 6 points in 1 block\n0 0\n4 0\n8 0\n4 0\n0 0
 /// A path of so many points.
 fn path(points: usize) -> Vec<Point> {
     (0..points).map(|i| Point { x: i as f64 / 8.0, y: -0.0 }).collect()
-}
-
-/// Writes the two checks of each block's content.
-fn seal(file: &mut [u8]) {
-    for block in file.chunks_mut(512) {
-        let (words, _) = block[..504].as_chunks();
-        let (mut first, mut second) = (0u32, 0u32);
-        for &word in words {
-            first = first.wrapping_add(u32::from_le_bytes(word));
-            second = second.wrapping_add(first);
-        }
-        block[504..508].copy_from_slice(&first.to_le_bytes());
-        block[508..].copy_from_slice(&second.to_le_bytes());
-    }
 }
 
 #[test]
@@ -148,7 +137,7 @@ fn damage_is_told_with_its_block_its_bytes_and_what_is_wrong() {
     let folder = Folder::new("damage");
     let sealed = |at: usize, bytes: &[u8], fault: &str| {
         let mut file = written(at, bytes);
-        seal(&mut file);
+        file.chunks_mut(512).for_each(seal);
         told(&folder, &file, fault);
     };
     sealed(512, &[7], "its number is 7");

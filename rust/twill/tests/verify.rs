@@ -2,22 +2,8 @@
 
 mod common;
 
-use common::Folder;
+use common::{Folder, PATH, PLATE, with_line};
 use std::fs;
-
-/// Plate E, and a point that the path touches.
-const PLATE: &str = "start inside\n(0,0)(4,0)(8,0) | (0,1) | (0,1)\n";
-
-/// Its path, in the text form.
-const PATH: &str = "# made elsewhere
-0 0 start 0
-4 0 cut 0
-8 0 cut 1
-4 0 back-step 1
-0 0 back-step 0
-0 1 jump 3
-0 1 touch 4
-";
 
 fn folder(name: &str) -> Folder {
     let folder = Folder::new(name);
@@ -28,9 +14,7 @@ fn folder(name: &str) -> Folder {
 
 /// What is printed of the path with another line in place of one, that counts from 0.
 fn refused(folder: &Folder, line: usize, other: &str) -> String {
-    let mut lines: Vec<&str> = PATH.lines().skip(1).collect();
-    lines[line] = other;
-    folder.put("other.txt", lines.join("\n"));
+    folder.put("other.txt", with_line(line, other));
     let ran = folder.twill("verify plate.txt other.txt");
     assert_eq!((ran.status, ran.err.as_str()), (Some(1), ""));
     ran.out

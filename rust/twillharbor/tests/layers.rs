@@ -1,5 +1,7 @@
 //! Ticket 9's layers through the safe interface: what they decide in each call, and refusal 13.
 
+mod refused;
+
 use twillharbor::LayerFault::{Layer, Length};
 use twillharbor::Refusal::{self, BadLayer, Blank, Miscounted, TooManyContours, TooManyPoints};
 use twillharbor::Refusal::{Full, OffThePlate, WorkShort};
@@ -30,24 +32,9 @@ fn entered(plate: Plate<'_>, strategy: StartPointStrategy) -> Vec<[u32; 2]> {
     marks.filter(|&[kind, _]| kind == 0 || kind == 3).collect()
 }
 
-/// Every call refuses alike and alters no slice that it is lent, though work is short and there
-/// is room for nothing.
 fn assert_refused(plate: Plate<'_>, refusal: Refusal) {
     for strategy in BOTH {
-        assert_eq!(plate.start(NOWHERE, strategy), Err(refusal));
-        assert_eq!(plate.order(NOWHERE, strategy), Err(refusal));
-        assert_eq!(plate.straight(NOWHERE, strategy), Err(refusal));
-        assert_eq!(plate.retrace(NOWHERE, strategy), Err(refusal));
-        let (mut numbers, mut floats, mut work, mut distances) =
-            ([7; 1], [7.0; 1], [7; 0], [7.0; 0]);
-        let into = plate.order_into(NOWHERE, strategy, &mut numbers, &mut work);
-        assert_eq!(into, Err(refusal));
-        let into = plate.straight_into(NOWHERE, strategy, &mut floats, &mut work);
-        assert_eq!(into, Err(refusal));
-        let (path, marks) = (&mut floats, &mut numbers);
-        let into = plate.retrace_into(NOWHERE, strategy, path, marks, &mut work, &mut distances);
-        assert_eq!(into, Err(refusal));
-        assert_eq!((numbers, floats), ([7; 1], [7.0; 1]));
+        refused::by_every_call(plate, strategy, refusal);
     }
 }
 

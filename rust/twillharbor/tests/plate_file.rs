@@ -1,6 +1,9 @@
 //! Plate files through the safe interface: the layout, what is read back, and every refusal. The
 //! blocks to compare with are made here, from document 02's text.
 
+mod block_checks;
+
+use block_checks::seal;
 use twillharbor::Refusal::{
     self, BlockDamaged, Full, Miscounted, OffThePlate, TooManyPoints, WrongEnd,
 };
@@ -27,18 +30,6 @@ fn path(points: usize) -> Vec<Point> {
 
 fn bits(path: &[Point]) -> Vec<[u64; 2]> {
     path.iter().map(|p| [p.x.to_bits(), p.y.to_bits()]).collect()
-}
-
-/// Writes the two checks of a block's content.
-fn seal(block: &mut [u8]) {
-    let (words, _) = block[..504].as_chunks();
-    let (mut first, mut second) = (0u32, 0u32);
-    for &word in words {
-        first = first.wrapping_add(u32::from_le_bytes(word));
-        second = second.wrapping_add(first);
-    }
-    block[504..508].copy_from_slice(&first.to_le_bytes());
-    block[508..].copy_from_slice(&second.to_le_bytes());
 }
 
 /// A block by the document's text.

@@ -17,10 +17,9 @@
 use harness::random::Random;
 use twillharbor::StartPointStrategy::{Inside, Outside};
 
-use super::Words;
+use super::{Words, after, file_of};
 use crate::damaged_marks::{DAMAGES, THIRDS, damaged};
 use crate::decoder::{HIGHEST_VERTEX, Marked, Picture, Room};
-use crate::lent::Number;
 use crate::other_paths::other_path;
 use crate::plates::{KINDS, Plate, small_plate};
 use crate::reference::retrace;
@@ -45,11 +44,7 @@ type Row = (Marked, Room);
 /// The rows: paths worked out by hand, then paths of the reference and other ones that draw a
 /// plate, in slices of several lengths, then as many of each damage.
 pub fn contours() -> String {
-    let rows = rows();
-    let mut words = Words::default();
-    words.line([rows.len() as u64]);
-    rows.iter().for_each(|(marked, room)| write_row(&mut words, marked, *room));
-    words.0
+    file_of(&rows(), |words, (marked, room)| write_row(words, marked, *room))
 }
 
 fn rows() -> Vec<Row> {
@@ -127,8 +122,7 @@ fn retraced(plate: &Plate, random: &mut Random) -> Option<Marked> {
 }
 
 fn otherwise(plate: &Plate, random: &mut Random) -> Option<Marked> {
-    let drawn = other_path(&plate.points, &plate.lengths, random);
-    let marked = Marked { path: drawn.path, marks: drawn.marks };
+    let marked = Marked::from(other_path(&plate.points, &plate.lengths, random));
     marked.contours().is_ok().then_some(marked)
 }
 
@@ -201,21 +195,15 @@ fn write_row(words: &mut Words, marked: &Marked, room: Room) {
     assert!(room.lengths <= MOST_LENGTHS && room.work <= MOST_WORK);
     let counts = [path.len(), marks.len(), room.points, room.lengths, room.work];
     words.line(counts.map(|count| count as u64));
-    words.line(path.iter().map(|c| c.bits()));
-    words.line(marks.iter().map(|n| n.bits()));
+    words.slice(path);
+    words.slice(marks);
     let due = marked.due(room);
     let (number, place, points, contours) = due.numbers();
     words.line([number.into(), place, points.into(), contours.into()]);
     let none = Picture::default();
     let written = due.picture().unwrap_or(&none);
-    words.line(after(&written.points, room.points, POINTS_FILL));
-    words.line(after(&written.lengths, room.lengths, LENGTHS_FILL));
-}
-
-/// The slice as the call leaves it.
-fn after<T: Number>(written: &[T], length: usize, fill: T) -> impl Iterator<Item = u64> {
-    let left = length - written.len();
-    written.iter().map(|n| n.bits()).chain(std::iter::repeat_n(fill.bits(), left))
+    words.slice(&after(&written.points, room.points, POINTS_FILL));
+    words.slice(&after(&written.lengths, room.lengths, LENGTHS_FILL));
 }
 
 #[cfg(test)]

@@ -22,9 +22,8 @@
 
 use harness::random::Random;
 
-use super::{PATH_FILL, Words};
+use super::{PATH_FILL, Words, after, file_of};
 use crate::damaged_files::{DAMAGES, Damage, damaged, off, sound, special};
-use crate::lent::Number;
 use crate::plate_file::{BLOCK, Refused, read, write};
 
 /// What a file slice holds in each byte before the call.
@@ -67,11 +66,7 @@ impl Reading {
 /// The rows: paths of each number of points with readings of their files, then paths that the writer
 /// refuses.
 pub fn files() -> String {
-    let rows = rows();
-    let mut words = Words::default();
-    words.line([rows.len() as u64]);
-    rows.iter().for_each(|row| write_row(&mut words, row));
-    words.0
+    file_of(&rows(), write_row)
 }
 
 fn rows() -> Vec<Row> {
@@ -171,8 +166,8 @@ fn write_row(words: &mut Words, row: &Row) {
     let file = due.unwrap_or_default();
     let counts = [path.len(), *room, number, place, file.len(), readings.len()];
     words.line(counts.map(|count| count as u64));
-    words.line(path.iter().map(|c| c.bits()));
-    let mut slice = left(&file, *room, FILE_FILL);
+    words.slice(path);
+    let mut slice = after(&file, *room, FILE_FILL);
     slice.resize(room.next_multiple_of(8), 0);
     let (eights, _) = slice.as_chunks();
     words.line(eights.iter().map(|&bytes| u64::from_be_bytes(bytes)));
@@ -188,21 +183,14 @@ fn write_reading(words: &mut Words, reading: &Reading, file: &[u8]) {
     let counts = [*from, *to, *room, altered.len(), number, place, path.len() / 2];
     words.line(counts.map(|count| count as u64));
     words.line(altered.iter().map(|&(place, value)| place as u64 * 256 + u64::from(value)));
-    words.line(left(&path, *room, PATH_FILL).iter().map(|c| c.bits()));
-}
-
-/// A slice as a call leaves it that was filled before: the result stands at its start.
-fn left<T: Copy>(result: &[T], room: usize, fill: T) -> Vec<T> {
-    let mut slice = vec![fill; room];
-    slice[..result.len()].copy_from_slice(result);
-    slice
+    words.slice(&after(&path, *room, PATH_FILL));
 }
 
 #[cfg(test)]
 mod tests {
     use twillharbor::c;
 
-    use super::{FILE_FILL, MOST_ALTERED, PATH_FILL, files, left, rows};
+    use super::{FILE_FILL, MOST_ALTERED, PATH_FILL, after, files, rows};
     use crate::plate_file::{Refused, WRONGS, read, write};
 
     #[test]
@@ -226,7 +214,7 @@ mod tests {
             let is = c::write_file(&row.path, &mut file);
             let size = due.as_ref().map_or(0, Vec::len);
             assert_eq!(is.bytes as usize, size);
-            assert_eq!(file, left(due.as_deref().unwrap_or_default(), row.room, FILE_FILL));
+            assert_eq!(file, after(due.as_deref().unwrap_or_default(), row.room, FILE_FILL));
             assert_eq!([is.number, is.place].map(|n| n as usize), due.err().unwrap_or([0, 0]));
             numbers.push(is.number);
             for reading in row.readings {
@@ -241,7 +229,7 @@ mod tests {
                 }
                 let due = due.map_err(Refused::numbers);
                 assert_eq!(is.points as usize, due.as_ref().map_or(0, |path| path.len() / 2));
-                let left = left(due.as_deref().unwrap_or_default(), reading.room, PATH_FILL);
+                let left = after(due.as_deref().unwrap_or_default(), reading.room, PATH_FILL);
                 assert!(path.iter().map(|c| c.to_bits()).eq(left.iter().map(|c| c.to_bits())));
                 assert_eq!([is.number, is.place].map(|n| n as usize), due.err().unwrap_or([0, 0]));
                 numbers.push(is.number);

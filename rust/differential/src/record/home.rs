@@ -2,10 +2,8 @@
 
 use twillharbor::{Point, Size};
 
-use super::plate_of;
+use super::{Contours, plate_of};
 use crate::plates::{LIMIT, Plate};
-
-type Contours = &'static [&'static [(f64, f64)]];
 
 const NAN: f64 = f64::NAN;
 const LEAST: f64 = f64::from_bits(1);
@@ -84,7 +82,7 @@ const SOUND: [Sound; 38] = [
 pub fn sound() -> Vec<(Plate, Point)> {
     let plates = SOUND.iter().map(|&(contours, layers, (x, y), _)| {
         let plate = plate_of(contours, Size { width: 8, height: 1 });
-        (Plate { layers: layers.to_vec(), ..plate }, Point { x, y })
+        (plate.with_layers(layers), Point { x, y })
     });
     plates.collect()
 }
@@ -129,7 +127,7 @@ const REFUSED: [Refused; 24] = [
 pub fn refused() -> Vec<(Plate, Point)> {
     let plates = REFUSED.iter().map(|&(points, lengths, layers, (x, y), _)| {
         let plate = Plate::new(points.to_vec(), lengths.to_vec(), Size::default());
-        (Plate { layers: layers.to_vec(), ..plate }, Point { x, y })
+        (plate.with_layers(layers), Point { x, y })
     });
     plates.collect()
 }

@@ -2,7 +2,7 @@
 
 use twillharbor::Size;
 
-use super::plate_of;
+use super::{Contours, plate_of};
 use crate::plates::Plate;
 
 /// How many of the sound plates are about the start: the strategy matters.
@@ -10,7 +10,6 @@ pub const STARTING: usize = 8;
 
 /// Plates that are not refused.
 pub fn sound() -> Vec<Plate> {
-    type Contours = &'static [&'static [(f64, f64)]];
     const POINTS: Contours = &[&[(0.0, 0.0)], &[(1.0, 0.0)], &[(2.0, 0.0)]];
     const IN_A_ROW: Contours = &[
         &[(0.0, 0.0)],
@@ -65,9 +64,8 @@ pub fn sound() -> Vec<Plate> {
             0,
         ),
     ];
-    let plates = plates.map(|(contours, layers, width, height)| Plate {
-        layers: layers.to_vec(),
-        ..plate_of(contours, Size { width, height })
+    let plates = plates.map(|(contours, layers, width, height)| {
+        plate_of(contours, Size { width, height }).with_layers(layers)
     });
     plates.to_vec()
 }
@@ -106,9 +104,8 @@ pub fn refused() -> Vec<Plate> {
         (&[], &[0, 0], &[15, 16]),
         (&[], &[0], &[]),
     ];
-    let plates = plates.map(|(points, lengths, layers)| Plate {
-        layers: layers.to_vec(),
-        ..Plate::new(points.to_vec(), lengths.to_vec(), Size::default())
+    let plates = plates.map(|(points, lengths, layers)| {
+        Plate::new(points.to_vec(), lengths.to_vec(), Size::default()).with_layers(layers)
     });
     plates.to_vec()
 }

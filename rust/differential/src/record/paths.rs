@@ -8,14 +8,13 @@
 //! - two words: the call's number and its place.
 //!
 //! A plate has at most 40 coordinates and 12 contours, the path slice and the marks slice have at
-//! most 128 elements each and the work slice 64. The answers are those of `drawn`.
+//! most 128 elements each and the work slice 64. The answers are those of `path_check`.
 
 use harness::random::Random;
 
-use super::Words;
-use crate::drawn::Handed;
-use crate::lent::Number;
+use super::{Words, file_of};
 use crate::other_paths::{DAMAGES, damaged, other_path};
+use crate::path_check::Handed;
 use crate::plates::{KINDS, small_plate};
 
 const MOST_ELEMENTS: usize = 128;
@@ -31,11 +30,7 @@ type Row = (Handed, usize);
 /// The rows: paths that draw their plate, with enough work and one short, then as many of each
 /// damage.
 pub fn paths() -> String {
-    let rows = rows();
-    let mut words = Words::default();
-    words.line([rows.len() as u64]);
-    rows.iter().for_each(|(handed, work)| write_row(&mut words, handed, *work));
-    words.0
+    file_of(&rows(), |words, (handed, work)| write_row(words, handed, *work))
 }
 
 fn rows() -> Vec<Row> {
@@ -73,10 +68,10 @@ fn write_row(words: &mut Words, handed: &Handed, work: usize) {
     let Handed { points, lengths, path, marks } = handed;
     let counts = [points.len(), lengths.len(), path.len(), marks.len(), work];
     words.line(counts.map(|count| count as u64));
-    words.line(points.iter().map(|c| c.bits()));
-    words.line(lengths.iter().map(|n| n.bits()));
-    words.line(path.iter().map(|c| c.bits()));
-    words.line(marks.iter().map(|n| n.bits()));
+    words.slice(points);
+    words.slice(lengths);
+    words.slice(path);
+    words.slice(marks);
     let (number, place) = handed.due(work).numbers();
     words.line([number.into(), place]);
 }

@@ -25,14 +25,12 @@ use twillharbor::StartPointStrategy::{self, Home, Inside, Outside};
 use twillharbor::{Point, Size};
 
 use super::{
-    PATH_FILL, Words, damaged_copy, fits, fitting_damages, home, in_layers, measured, plate_of,
-    refused_plates, told_apart, touching, write_plate,
+    Contours, PATH_FILL, Words, after, damaged_copy, file_of, fits, fitting_damages, home_rows,
+    in_layers, length_plates, plate_of, refused_plates, told_apart, touch_plates, write_plate,
 };
 use crate::layers;
-use crate::lent::Number;
-use crate::meeting::MEETINGS;
-use crate::parked;
-use crate::plates::{self, Plate, small_plate};
+use crate::meeting_plates::MEETINGS;
+use crate::plates::{Plate, small_plate};
 use crate::reference::retrace;
 use crate::retrace_plates::{KINDS, Kind, plate};
 use crate::rule::{self, Refused, Retrace};
@@ -70,11 +68,7 @@ struct Row {
 /// of each kind of `plates`. Last come plates by hand for their lengths, and plates that tell rules
 /// apart.
 pub fn retraces() -> String {
-    let rows = rows();
-    let mut words = Words::default();
-    words.line([rows.len() as u64]);
-    rows.iter().for_each(|row| write_row(&mut words, row));
-    words.0
+    file_of(&rows(), write_row)
 }
 
 fn rows() -> Vec<Row> {
@@ -88,7 +82,7 @@ fn rows() -> Vec<Row> {
     rows.extend(damaged_rows(random));
     let points = points_of(&passed_over(), Inside);
     rows.push(fitted(passed_over(), Inside, 2 * points, 2 * points));
-    rows.extend(home_rows());
+    rows.extend(home_rows(24, has_short_path, row));
     rows.extend(measured_rows());
     rows.extend(told_apart_rows());
     rows
@@ -104,35 +98,12 @@ fn told_apart_rows() -> Vec<Row> {
 /// All fit.
 fn measured_rows() -> Vec<Row> {
     let random = &mut Random::new(26);
-    measured::plates().into_iter().map(|plate| row(plate, Inside, 0, random)).collect()
+    length_plates::plates().into_iter().map(|plate| row(plate, Inside, 0, random)).collect()
 }
 
-/// Rows with parked points.
-fn home_rows() -> Vec<Row> {
-    let (random, of_layers) = (&mut Random::new(24), &mut Random::new(25));
-    let mut rows = Vec::new();
-    for (plate, point) in home::sound() {
-        rows.push(row(plate, Home(point), 0, random));
-    }
-    for (turn, (plate, point)) in home::refused().into_iter().enumerate() {
-        rows.push(row(plate, Home(point), turn, random));
-    }
-    for (turn, (kind, _)) in plates::KINDS.into_iter().enumerate() {
-        let (plate, point) = fitting_home(kind, of_layers, random);
-        rows.push(row(plate, Home(point), turn, random));
-    }
-    rows
-}
-
-/// A plate of the kind, in layers, and a parked point, with a path that fits in a row.
-fn fitting_home(kind: plates::Kind, of_layers: &mut Random, random: &mut Random) -> (Plate, Point) {
-    loop {
-        let plate = layers::in_layers(small_plate(kind, random), of_layers);
-        let point = parked::on_the_plate(&plate, random);
-        if worked_out(&plate, Home(point)).is_ok_and(|due| due.whole && due.marks.len() >= 4) {
-            return (plate, point);
-        }
-    }
+/// Whether the plate has a path, of some points, that fits in a row.
+fn has_short_path(plate: &Plate, home: Point) -> bool {
+    worked_out(plate, Home(home)).is_ok_and(|due| due.whole && due.marks.len() >= 4)
 }
 
 /// The jump comes from (7.8,3.9), though (11.7,0) is nearer: it lies in the ring whose bound ends
@@ -168,9 +139,9 @@ fn fitted(plate: Plate, strategy: StartPointStrategy, path: usize, marks: usize)
 /// All fit; some are cut off before a touch and after it.
 fn touching_rows(random: &mut Random) -> Vec<Row> {
     let mut rows = Vec::new();
-    for (place, plate) in touching::plates().into_iter().enumerate() {
+    for (place, plate) in touch_plates::plates().into_iter().enumerate() {
         rows.push(row(plate.clone(), Inside, 0, random));
-        if touching::CUT_OFF.contains(&place) {
+        if touch_plates::CUT_OFF.contains(&place) {
             let due = worked_out(&plate, Inside).expect("it is not refused");
             let touch = due.marks.iter().position(|mark| mark[0] == rule::retrace::TOUCH);
             let before = 2 * touch.expect("its contours meet");
@@ -305,7 +276,6 @@ const LETTERED: usize = 7;
 const PLATE_E: usize = 4;
 
 fn marked() -> Vec<(Plate, StartPointStrategy)> {
-    type Contours = &'static [&'static [(f64, f64)]];
     const TINY: f64 = 1.0 / 64.0;
     let plates: [(Contours, u32, u32, StartPointStrategy); 41] = [
         // A, and with contours that are skipped
@@ -429,19 +399,7 @@ fn marked() -> Vec<(Plate, StartPointStrategy)> {
             Inside,
         ),
         // contours that hold no point are skipped, and are no jumps
-        (
-            &[
-                &[],
-                &[(0.0, 0.0), (4.0, 0.0)],
-                &[],
-                &[(9.0, 0.0), (5.0, 0.0)],
-                &[(1.0, 1.0), (1.0, 2.0)],
-                &[(9.0, 1.0)],
-            ],
-            0,
-            0,
-            Inside,
-        ),
+        (told_apart::SKIPPING, 0, 0, Inside),
         // 0 and -0 are as near, and each keeps its bits
         (&[&[(0.0, -0.0)], &[(-0.0, 0.0), (-0.0, -0.0)], &[(0.0, 0.0)]], 0, 0, Outside),
     ];
@@ -464,14 +422,12 @@ fn write_row(words: &mut Words, row: &Row) {
     let lengths = &plate.lengths;
     let (answer, written) = rule::retrace_outcome(result, lengths, room, work, distances);
     words.line(answer);
-    let mut path = vec![PATH_FILL; path];
-    let mut marks = vec![MARKS_FILL; marks];
-    if let Ok(due) = &due {
-        path[..2 * written].copy_from_slice(due.path[..written].as_flattened());
-        marks[..2 * written].copy_from_slice(due.marks[..written].as_flattened());
-    }
-    words.line(path.into_iter().map(Number::bits));
-    words.line(marks.into_iter().map(Number::bits));
+    let (path_due, marks_due): (&[_], &[_]) = match &due {
+        Ok(due) => (&due.path[..written], &due.marks[..written]),
+        Err(_) => (&[], &[]),
+    };
+    words.slice(&after(path_due.as_flattened(), path, PATH_FILL));
+    words.slice(&after(marks_due.as_flattened(), marks, MARKS_FILL));
 }
 
 #[cfg(test)]
@@ -479,14 +435,13 @@ mod tests {
     use twillharbor::StartPointStrategy::Inside;
     use twillharbor::{Size, c};
 
-    use super::super::tests::{MOST_BYTES, words};
-    use super::super::{MOST_COORDINATES, MOST_LAYERS, MOST_LENGTHS};
+    use super::super::tests::{MOST_BYTES, Read, read_plate, words};
     use super::{
         LETTERED, MARKS_FILL, MOST_DISTANCES, MOST_ELEMENTS, MOST_WORK, PATH_FILL, PLATE_E, marked,
         passed_over, retraces, worked_out,
     };
     use crate::near::{self, PassedOver};
-    use crate::retracing::answer;
+    use crate::retrace_call::answer;
     use crate::rule::retrace::TOUCH;
 
     /// Reads the rows as a program without Rust would, and calls the library.
@@ -501,26 +456,15 @@ mod tests {
         let (mut numbers, mut places, mut touching) = ([0; 14], [0; 2], [0; 3]);
         let mut of_home = [0; 14];
         for _ in 0..rows {
-            let [coordinates, contours, layers] = [(); 3].map(|()| next() as usize);
-            let [width, height] = [(); 2].map(|()| u32::try_from(next()).unwrap());
-            let strategy = next();
-            assert!(strategy <= 2, "strategy {strategy}");
-            let (home, inside) = (strategy == 2, strategy == 1);
-            let [path, marks, work, distances] = [(); 4].map(|()| next() as usize);
-            let [x, y] = [(); 2].map(|()| f64::from_bits(next()));
-            assert!(home || [x, y].map(f64::to_bits) == [0, 0]);
-            assert!(coordinates <= MOST_COORDINATES && contours <= MOST_LENGTHS);
-            assert!(layers <= MOST_LAYERS);
+            let (plate, [path, marks, work, distances]) = read_plate(&mut next);
+            let Read { points, lengths, layers, size: [width, height], inside, home } = plate;
             assert!(path.max(marks) <= MOST_ELEMENTS);
             assert!(work <= MOST_WORK && distances <= MOST_DISTANCES);
-            let points: Vec<f64> = (0..coordinates).map(|_| f64::from_bits(next())).collect();
-            let [lengths, layers]: [Vec<u32>; 2] = [contours, layers]
-                .map(|count| (0..count).map(|_| u32::try_from(next()).unwrap()).collect());
 
             let mut path = vec![PATH_FILL; path];
             let mut marks = vec![MARKS_FILL; marks];
             let (mut work, mut distances) = (vec![7; work], vec![9.0; distances]);
-            let r = if home {
+            let r = if let Some([x, y]) = home {
                 c::retrace_home(
                     &points,
                     &lengths,
@@ -553,7 +497,7 @@ mod tests {
                 assert!(work.iter().all(|&n| n == 7) && distances.iter().all(|&x| x == 9.0));
             }
             numbers[r.number as usize] += 1;
-            of_home[r.number as usize] += u32::from(home);
+            of_home[r.number as usize] += u32::from(home.is_some());
             if r.number == 5 {
                 places[r.place as usize] += 1;
             }

@@ -4,10 +4,8 @@
 use twillharbor::StartPointStrategy::{self, Home, Inside, Outside};
 use twillharbor::{Point, Size};
 
-use super::plate_of;
+use super::{Contours, plate_of};
 use crate::plates::{LIMIT, Plate};
-
-type Contours = &'static [&'static [(f64, f64)]];
 
 const NAN: f64 = f64::NAN;
 const INFINITY: f64 = f64::INFINITY;
@@ -19,7 +17,8 @@ const B: Contours = &[&[(0.0, 0.0), (4.0, 0.0)]];
 /// The last is farther from the first than the other.
 const THREE: Contours = &[&[(0.0, 0.0)], &[(1.0, 0.0)], &[(0.0, 2.0)]];
 const FOUR: Contours = &[&[(0.0, 0.0)], &[(1.0, 0.0)], &[(0.0, 9.0)], &[(0.0, 2.0)]];
-const SKIPPING: Contours = &[
+/// Contours that hold no point are skipped.
+pub const SKIPPING: Contours = &[
     &[],
     &[(0.0, 0.0), (4.0, 0.0)],
     &[],
@@ -33,8 +32,7 @@ const fn home(x: f64, y: f64) -> StartPointStrategy {
 }
 
 fn in_layers(contours: Contours, layers: &[u32], [width, height]: [u32; 2]) -> Plate {
-    let plate = plate_of(contours, Size { width, height });
-    Plate { layers: layers.to_vec(), ..plate }
+    plate_of(contours, Size { width, height }).with_layers(layers)
 }
 
 /// Contours, layers, width and height, the strategy, and the order that is due.
@@ -159,7 +157,7 @@ const REFUSED: [Refused; 23] = [
 pub fn refused() -> Vec<(Plate, StartPointStrategy, [usize; 3])> {
     let plates = REFUSED.iter().map(|&(points, lengths, layers, strategy, slices, _)| {
         let plate = Plate::new(points.to_vec(), lengths.to_vec(), Size::default());
-        (Plate { layers: layers.to_vec(), ..plate }, strategy, slices)
+        (plate.with_layers(layers), strategy, slices)
     });
     plates.collect()
 }

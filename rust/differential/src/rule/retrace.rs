@@ -319,13 +319,8 @@ mod tests {
         strategy: StartPointStrategy,
         cap: usize,
     ) -> Vec<Step> {
-        let plate = Plate {
-            points: points.to_vec(),
-            lengths: lengths.to_vec(),
-            layers: layers.to_vec(),
-            size: Size { width, height },
-        };
-        retrace(&plate, strategy, cap).0
+        let plate = Plate::new(points.to_vec(), lengths.to_vec(), Size { width, height });
+        retrace(&plate.with_layers(layers), strategy, cap).0
     }
 
     fn marks(

@@ -168,7 +168,7 @@ impl Reader<'_> {
 mod tests {
     use super::{is_one, read};
     use crate::args::Format;
-    use crate::joined::Joined;
+    use crate::joined_plate::Joined;
     use crate::plate::Handed;
     use crate::{read as files, write};
     use twillharbor::{MarkedPath, Point, Size, StartPointStrategy};

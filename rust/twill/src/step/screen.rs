@@ -383,7 +383,7 @@ fn cut(text: &str, columns: usize) -> String {
 #[cfg(test)]
 mod tests {
     use super::{Row, colour, cut, frame, sign, title, wrap};
-    use crate::joined::Joined;
+    use crate::joined_plate::Joined;
     use crate::number::show;
     use crate::step::keys::Key;
     use crate::step::state::State;

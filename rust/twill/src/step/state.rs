@@ -1,7 +1,7 @@
 //! Where the user is in a path, and what the keys do.
 
 use super::keys::Key;
-use crate::joined::Joined;
+use crate::joined_plate::Joined;
 use crate::passes::Passes;
 use std::ops::ControlFlow;
 use twillharbor::{Counts, Lengths, PairKind, Totals};
@@ -181,7 +181,7 @@ impl<'a> State<'a> {
 #[cfg(test)]
 mod tests {
     use super::State;
-    use crate::joined::Joined;
+    use crate::joined_plate::Joined;
     use crate::step::keys::Key;
     use crate::tell::tests::{joined, of_file, plate_e, touching};
     use twillharbor::{Lengths, Totals};

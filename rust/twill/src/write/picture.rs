@@ -3,7 +3,7 @@
 //! a lozenge. Layers differ in colour and dashes, and each is a group with its name as title. A
 //! parked point is a square around a dot. The colours are those of the page.
 
-use crate::joined::Joined;
+use crate::joined_plate::Joined;
 use crate::number::show;
 use crate::plate::{self, Handed};
 use crate::words;

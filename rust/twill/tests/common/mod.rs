@@ -7,6 +7,27 @@ use std::io::Write;
 use std::path::PathBuf;
 use std::process::{Command, Output, Stdio};
 
+/// Plate E, and a point that the path touches.
+pub const PLATE: &str = "start inside\n(0,0)(4,0)(8,0) | (0,1) | (0,1)\n";
+
+/// Its path, in the text form.
+pub const PATH: &str = "# made elsewhere
+0 0 start 0
+4 0 cut 0
+8 0 cut 1
+4 0 back-step 1
+0 0 back-step 0
+0 1 jump 3
+0 1 touch 4
+";
+
+/// The lines of the path, counted from 0, with another in place of one.
+pub fn with_line(line: usize, other: &str) -> String {
+    let mut lines: Vec<&str> = PATH.lines().skip(1).collect();
+    lines[line] = other;
+    lines.join("\n")
+}
+
 /// A folder that is removed at the end.
 pub struct Folder(PathBuf);
 

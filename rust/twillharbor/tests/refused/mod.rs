@@ -1,6 +1,10 @@
-//! Plates that every call refuses alike, with refusals 1 to 4. `assert` is a call's own.
+//! Plates that every call refuses alike, with refusals 1 to 4 (`assert` is a call's own), and what
+//! every call does that refuses a plate.
+
+#![allow(dead_code, reason = "each file of tests uses its part")]
 
 use twillharbor::Refusal::{self, Miscounted, OffThePlate, TooManyContours, TooManyPoints};
+use twillharbor::{Plate, Size, StartPointStrategy};
 
 const LIMIT: f64 = 1_000_000.0;
 /// The coordinates of contours of one and of two points, as far out as they may be.
@@ -39,4 +43,23 @@ pub fn at_the_first_coordinate_off_the_plate(assert: impl Fn(&[f64], &[u32], Ref
             assert(&points, &[1, 2], OffThePlate { place: place as u32 });
         }
     }
+}
+
+/// Every call refuses alike and alters no slice that it is lent, though work is short and there
+/// is room for nothing.
+pub fn by_every_call(plate: Plate<'_>, strategy: StartPointStrategy, refusal: Refusal) {
+    const NOWHERE: Size = Size { width: 0, height: 0 };
+    assert_eq!(plate.start(NOWHERE, strategy), Err(refusal));
+    assert_eq!(plate.order(NOWHERE, strategy), Err(refusal));
+    assert_eq!(plate.straight(NOWHERE, strategy), Err(refusal));
+    assert_eq!(plate.retrace(NOWHERE, strategy), Err(refusal));
+    let (mut numbers, mut floats, mut work, mut distances) = ([7; 1], [7.0; 1], [7; 0], [7.0; 0]);
+    let into = plate.order_into(NOWHERE, strategy, &mut numbers, &mut work);
+    assert_eq!(into, Err(refusal));
+    let into = plate.straight_into(NOWHERE, strategy, &mut floats, &mut work);
+    assert_eq!(into, Err(refusal));
+    let (path, marks) = (&mut floats, &mut numbers);
+    let into = plate.retrace_into(NOWHERE, strategy, path, marks, &mut work, &mut distances);
+    assert_eq!(into, Err(refusal));
+    assert_eq!((numbers, floats), ([7; 1], [7.0; 1]));
 }

@@ -2,10 +2,8 @@
 
 use twillharbor::Size;
 
-use super::plate_of;
+use super::{Contours, plate_of};
 use crate::plates::{LIMIT, Plate};
-
-type Contours = &'static [&'static [(f64, f64)]];
 
 const PART: f64 = 1.0 / 1_024.0;
 const SEVEN: f64 = 7.0 * PART;
@@ -60,8 +58,8 @@ mod tests {
     use twillharbor::StartPointStrategy::Inside;
 
     use super::{PLATES, plates};
+    use crate::marked_paths::is_over_back_step;
     use crate::reference::retrace;
-    use crate::rule::retrace::BACK_STEP;
 
     /// Worked out by hand from document 02's sentences.
     #[test]
@@ -76,9 +74,7 @@ mod tests {
     fn the_last_steps_back_over_a_step_back() {
         let plate = plates().pop().unwrap();
         let marks = retrace(&plate, Inside, usize::MAX).unwrap().unwrap().marks;
-        let over_back = |&&[kind, reversed]: &&[u32; 2]| {
-            kind == BACK_STEP && marks[reversed as usize + 1][0] == BACK_STEP
-        };
-        assert_eq!(marks.iter().filter(over_back).count(), 1, "{marks:?}");
+        let over_back_step = marks.iter().filter(|&&mark| is_over_back_step(mark, &marks));
+        assert_eq!(over_back_step.count(), 1, "{marks:?}");
     }
 }

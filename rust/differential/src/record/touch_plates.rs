@@ -2,7 +2,7 @@
 
 use twillharbor::Size;
 
-use super::plate_of;
+use super::{Contours, plate_of};
 use crate::plates::Plate;
 
 /// Of the plates with these numbers the path is cut off before and after its first touch too.
@@ -10,7 +10,6 @@ pub const CUT_OFF: [usize; 2] = [0, 2];
 
 /// The plates. All are for Inside, with the centre (0,0).
 pub fn plates() -> Vec<Plate> {
-    type Contours = &'static [&'static [(f64, f64)]];
     const LINE: &[(f64, f64)] = &[(0.0, 0.0), (4.0, 0.0), (8.0, 0.0)];
     const ACROSS: &[(f64, f64)] = &[(4.0, -4.0), (4.0, 0.0), (4.0, 4.0)];
     const LEAST: f64 = f64::from_bits(1);
@@ -77,10 +76,8 @@ pub fn plates() -> Vec<Plate> {
         // a jump, a touch after it and a jump again
         (&[&[(0.0, 0.0)], &[(3.0, 0.0), (3.0, 4.0)], &[(3.0, 4.0)], &[(4.0, 4.0)]], &[0; 4]),
     ];
-    let plates = plates.map(|(contours, layers)| Plate {
-        layers: layers.to_vec(),
-        ..plate_of(contours, Size::default())
-    });
+    let plates =
+        plates.map(|(contours, layers)| plate_of(contours, Size::default()).with_layers(layers));
     plates.to_vec()
 }
 

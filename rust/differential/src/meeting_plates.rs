@@ -2,7 +2,6 @@
 //! where it jumps though next to nothing lies between.
 
 use harness::random::Random;
-use twillharbor::Size;
 
 use crate::floats::{nudged, power, signed};
 use crate::plates::Plate;
@@ -105,16 +104,12 @@ fn laid(contours: &[Vec<Node>], lattice: Lattice, random: &mut Random) -> Plate 
         .iter()
         .map(|contour| contour.iter().map(|&node| lattice.point(node)).collect())
         .collect();
-    of_points(&contours, random)
+    of_any_size(&contours, random)
 }
 
-fn of_points(contours: &[Vec<[f64; 2]>], random: &mut Random) -> Plate {
-    let [width, height] = random.pick(&[[0, 0], [0, 0], [10, 10], [1_000, 1], [u32::MAX, 7]]);
-    Plate::new(
-        contours.concat().into_flattened(),
-        contours.iter().map(|contour| contour.len() as u32).collect(),
-        Size { width, height },
-    )
+fn of_any_size(contours: &[Vec<[f64; 2]>], random: &mut Random) -> Plate {
+    let size = random.pick(&[[0, 0], [0, 0], [10, 10], [1_000, 1], [u32::MAX, 7]]);
+    Plate::of_contours(contours, size)
 }
 
 /// Hundreds of contours in any order would be walked over again and again.
@@ -344,7 +339,7 @@ fn no_distance(random: &mut Random) -> Plate {
     if random.one_in(4) {
         contours.push(vec![[random.unit(), 1.0]]);
     }
-    of_points(&contours, random)
+    of_any_size(&contours, random)
 }
 
 /// Points that have one coordinate in common with an earlier one, or both but in another place, of
@@ -359,7 +354,7 @@ fn one_coordinate(random: &mut Random) -> Plate {
         drawn.extend(&contour);
         contours.push(contour);
     }
-    of_points(&contours, random)
+    of_any_size(&contours, random)
 }
 
 fn beside([x, y]: [f64; 2], random: &mut Random) -> [f64; 2] {

@@ -12,10 +12,10 @@ use harness::random::Random;
 use twillharbor::StartPointStrategy::{self, Home, Inside, Outside};
 use twillharbor::{Point, Size, c};
 
-use crate::handed::{Handed, numbers};
 use crate::layers::{Met, in_seeded_layers};
-use crate::lent::{Lent, Number};
-use crate::parked;
+use crate::lent_slices::{Lent, Number};
+use crate::parked_points;
+use crate::plate_case::{Handed, numbers};
 use crate::plates::{KINDS, Kind, Plate, damaged_somehow, plate};
 use crate::reference::{Results, results};
 use crate::rule::{self, NUMBERS, Refused};
@@ -39,7 +39,7 @@ struct Tally {
     order: [AtomicU64; NUMBERS.len()],
     straight: [AtomicU64; NUMBERS.len()],
     met: Met,
-    parked: parked::Met,
+    parked: parked_points::Met,
 }
 
 impl Tally {
@@ -70,11 +70,8 @@ impl Tally {
 pub fn run(plan: Plan) -> bool {
     println!("plates: {} plates, seed {}", plan.pairs, plan.seed);
     let tally = Tally::default();
-    let same = run::run(plan, &KINDS, |kind, random| {
-        let seed = random.bits();
-        let number = run::number_of(&kind, &KINDS);
+    let same = run::run_seeded(plan, run::CHUNK, &KINDS, "plate", |kind, seed| {
         compare(kind, seed, &tally)
-            .map_err(|e| format!("{e}\n  again: differential plate --kind {number} --seed {seed}"))
     });
     tally.print();
     let met = [tally.met.print(plan.pairs), tally.parked.print(plan.pairs)];
@@ -94,7 +91,7 @@ pub fn run_one(kind: u64, seed: u64) -> Result<bool, String> {
 fn compare(kind: Kind, seed: u64, tally: &Tally) -> Result<(), String> {
     let random = &mut Random::new(seed);
     let plate = in_seeded_layers(plate(kind, random), seed);
-    let of_home = &mut parked::seeded(seed);
+    let of_home = &mut parked_points::seeded(seed);
     let most = if plate.points.len() > 1_000 || plate.lengths.len() > 50 {
         let case = handed(&plate, random.pick(&[Outside, Inside]), tally, random)?;
         sound(&case, 2, random)?;
@@ -116,8 +113,8 @@ fn compare(kind: Kind, seed: u64, tally: &Tally) -> Result<(), String> {
 
 /// The plate with a parked point, with one off the plate, and damaged copies with either.
 fn home(plate: &Plate, tally: &Tally, most: usize, random: &mut Random) -> Result<(), String> {
-    let on = parked::on_the_plate(plate, random);
-    let off = parked::off_the_plate(on, random);
+    let on = parked_points::on_the_plate(plate, random);
+    let off = parked_points::off_the_plate(on, random);
     sound(&handed(plate, Home(on), tally, random)?, most, random)?;
     refused(plate, Home(off), tally, random)?;
     for _ in 0..HOME_COPIES {
@@ -130,9 +127,7 @@ fn home(plate: &Plate, tally: &Tally, most: usize, random: &mut Random) -> Resul
 /// With the centre for its parked point the plate of a case of Inside gives what that one gives.
 fn at_the_centre(inside: &Case, random: &mut Random) -> Result<(), String> {
     let plate = inside.plate;
-    let strategy = Home(rule::centre(plate.size));
-    // A centre may be off the plate.
-    let due = rule::checked(plate, strategy).and_then(|()| inside.due.clone());
+    let (strategy, due) = inside.at_the_centre();
     inside.tally.parked.as_inside(&due);
     let case = Case::new(plate, strategy, inside.tally, Ok(due), random)?;
     case.start()?;
@@ -311,9 +306,11 @@ impl Case<'_> {
         let mut work = Lent::random(work, random);
         let is = answer(self, slice.slice_mut(), work.slice_mut());
         self.same("number, place and count", &name, &is, &due)?;
-        self.holds("output slice", &name, slice.difference(written))?;
-        let free = due[0] == 0 || due[0] == 6;
-        self.holds("work", &name, if free { work.margins_altered() } else { work.altered() })?;
+        let is_free = due[0] == 0 || due[0] == 6;
+        self.hold(
+            &name,
+            [("output slice", slice.difference(written)), ("work", work.altered_unless(is_free))],
+        )?;
         self.inputs_kept(&name)
     }
 
@@ -349,19 +346,13 @@ impl Case<'_> {
 
 #[cfg(test)]
 mod tests {
-    use harness::random::Random;
-
     use super::{Tally, compare};
     use crate::plates::KINDS;
+    use crate::run::assert_every_kind_agrees;
 
     #[test]
     fn every_kind_agrees() {
-        let mut random = Random::new(1);
         let tally = Tally::default();
-        for (kind, name) in KINDS {
-            for _ in 0..50 {
-                compare(kind, random.bits(), &tally).unwrap_or_else(|e| panic!("{name}: {e}"));
-            }
-        }
+        assert_every_kind_agrees(&KINDS, 50, |kind, random| compare(kind, random.bits(), &tally));
     }
 }

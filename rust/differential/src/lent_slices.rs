@@ -11,25 +11,21 @@ pub trait Number: Copy {
     fn random(random: &mut Random) -> Self;
 }
 
-impl Number for u8 {
-    fn bits(self) -> u64 {
-        self.into()
-    }
+macro_rules! whole_numbers {
+    ($($number:ty)*) => {$(
+        impl Number for $number {
+            fn bits(self) -> u64 {
+                self.into()
+            }
 
-    fn random(random: &mut Random) -> Self {
-        random.bits() as Self
-    }
+            fn random(random: &mut Random) -> Self {
+                random.bits() as Self
+            }
+        }
+    )*};
 }
 
-impl Number for u32 {
-    fn bits(self) -> u64 {
-        self.into()
-    }
-
-    fn random(random: &mut Random) -> Self {
-        random.bits() as Self
-    }
-}
+whole_numbers!(u8 u32);
 
 impl Number for f64 {
     fn bits(self) -> u64 {
@@ -96,10 +92,10 @@ impl<T: Number> Lent<T> {
         self.difference(&[])
     }
 
-    /// The first place of the margins alone that was altered.
-    pub fn margins_altered(&self) -> Option<Difference> {
+    /// The first place that was altered; where the slice is free, of the margins alone.
+    pub fn altered_unless(&self, is_free: bool) -> Option<Difference> {
         let slice = self.margin..self.now.len() - self.margin;
-        self.first(self.before.iter(), |at| !slice.contains(&at))
+        self.first(self.before.iter(), |at| !(is_free && slice.contains(&at)))
     }
 
     fn first<'a>(
@@ -124,6 +120,15 @@ pub struct Difference {
     place: i64,
     is: u64,
     should: u64,
+}
+
+/// It is an error, told with the slice's name, where one of these holds wrong bits.
+pub fn hold<const N: usize>(slices: [(&str, Option<Difference>); N]) -> Result<(), String> {
+    let mut wrong = slices.into_iter().filter_map(|(slice, wrong)| Some((slice, wrong?)));
+    match wrong.next() {
+        None => Ok(()),
+        Some((slice, wrong)) => Err(format!("of the {slice}, {wrong}")),
+    }
 }
 
 impl fmt::Display for Difference {

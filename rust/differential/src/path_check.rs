@@ -5,6 +5,7 @@ use std::collections::HashSet;
 use std::ops::Range;
 
 use crate::rule;
+use crate::tally::Listed;
 
 /// What the check call is handed, but for the work slice.
 #[derive(Debug, Clone)]
@@ -37,25 +38,27 @@ pub enum Rule {
     ContoursAreEntered,
 }
 
-pub const RULES: [(Rule, &str); 17] = [
-    (Rule::KindsAreThese, "a mark's kind is 0, 1, 2, 3 or 4"),
-    (Rule::StartComesFirst, "the first mark is a start"),
-    (Rule::StartComesOnce, "no other mark is a start"),
-    (Rule::LandingIsAVertex, "a landing names a vertex"),
-    (Rule::LandingHasItsBits, "a landing has the bits of the vertex it names"),
-    (Rule::LandingIsAnew, "a landing enters a contour not entered before"),
-    (Rule::JumpsDiffer, "a jump's pair is not equal as numbers"),
-    (Rule::TouchesAreEqual, "a touch's pair is equal as numbers"),
-    (Rule::CutIsASegment, "a cut names a segment"),
-    (Rule::CutHasItsBits, "a cut's pair has the bits of its segment's ends"),
-    (Rule::CutEntersNothing, "a cut is of a contour entered before"),
-    (Rule::CutComesOnce, "a cut is of a segment not cut before"),
-    (Rule::BackStepIsEarlier, "a back-step's k + 1 is an earlier path point"),
-    (Rule::BackStepLeavesItsEnd, "a back-step leaves path point k + 1's bits"),
-    (Rule::BackStepHasItsBits, "a back-step has path point k's bits"),
-    (Rule::SegmentsAreCut, "each segment is cut"),
-    (Rule::ContoursAreEntered, "each contour is entered"),
-];
+impl Listed for Rule {
+    const LIST: &'static [(Self, &'static str)] = &[
+        (Self::KindsAreThese, "a mark's kind is 0, 1, 2, 3 or 4"),
+        (Self::StartComesFirst, "the first mark is a start"),
+        (Self::StartComesOnce, "no other mark is a start"),
+        (Self::LandingIsAVertex, "a landing names a vertex"),
+        (Self::LandingHasItsBits, "a landing has the bits of the vertex it names"),
+        (Self::LandingIsAnew, "a landing enters a contour not entered before"),
+        (Self::JumpsDiffer, "a jump's pair is not equal as numbers"),
+        (Self::TouchesAreEqual, "a touch's pair is equal as numbers"),
+        (Self::CutIsASegment, "a cut names a segment"),
+        (Self::CutHasItsBits, "a cut's pair has the bits of its segment's ends"),
+        (Self::CutEntersNothing, "a cut is of a contour entered before"),
+        (Self::CutComesOnce, "a cut is of a segment not cut before"),
+        (Self::BackStepIsEarlier, "a back-step's k + 1 is an earlier path point"),
+        (Self::BackStepLeavesItsEnd, "a back-step leaves path point k + 1's bits"),
+        (Self::BackStepHasItsBits, "a back-step has path point k's bits"),
+        (Self::SegmentsAreCut, "each segment is cut"),
+        (Self::ContoursAreEntered, "each contour is entered"),
+    ];
+}
 
 /// The rule that a path breaks first, and the path point at which it does, or the path's length.
 #[derive(Debug, Clone, Copy, PartialEq, Eq)]
@@ -222,7 +225,7 @@ fn holds(holds: bool, rule: Rule) -> Result<(), Rule> {
 
 #[cfg(test)]
 mod tests {
-    use super::{Broken, Due, Handed, RULES, Rule};
+    use super::{Broken, Due, Handed, Rule};
 
     /// Plate E and its path, with a skipped contour.
     fn e() -> Handed {
@@ -305,12 +308,5 @@ mod tests {
         assert_eq!(handed.due(0), Due::Plate(4, 3));
         handed.points.pop();
         assert_eq!(handed.due(0), Due::Plate(3, 0));
-    }
-
-    #[test]
-    fn the_rules_stand_in_their_order() {
-        for (place, (rule, _)) in RULES.into_iter().enumerate() {
-            assert_eq!(rule as usize, place);
-        }
     }
 }

@@ -3,11 +3,13 @@
 use std::fmt::Debug;
 
 use harness::random::Random;
-use twillharbor::{Refusal, StartPointStrategy};
+use twillharbor::Refusal;
+use twillharbor::StartPointStrategy::{self, Home};
 
-use crate::lent::{Difference, Lent};
+use crate::floats::hexadecimal;
+use crate::lent_slices::{self, Difference, Lent};
 use crate::plates::Plate;
-use crate::rule::Refused;
+use crate::rule::{self, Refused};
 
 /// `due` is the reference's result or the refusal; `tally` counts the calls.
 pub struct Handed<'a, Due, Tally> {
@@ -36,15 +38,30 @@ impl<'a, Due, Tally> Handed<'a, Due, Tally> {
         Ok(Self { plate, strategy, tally, points, lengths, layers, due })
     }
 
+    /// Home with the plate's centre for the parked point, and what is due of it where this is the
+    /// plate with Inside: the same, unless the centre is off the plate.
+    pub fn at_the_centre(&self) -> (StartPointStrategy, Result<Due, Refused>)
+    where
+        Due: Clone,
+    {
+        let strategy = Home(rule::centre(self.plate.size));
+        (strategy, rule::checked(self.plate, strategy).and_then(|()| self.due.clone()))
+    }
+
     /// Points, lengths and layers.
     pub fn inputs(&self) -> (&[f64], &[u32], &[u32]) {
         (self.points.slice(), self.lengths.slice(), self.layers.slice())
     }
 
     pub fn inputs_kept(&self, call: &str) -> Result<(), String> {
-        self.holds("points", call, self.points.altered())?;
-        self.holds("lengths", call, self.lengths.altered())?;
-        self.holds("layers", call, self.layers.altered())
+        self.hold(
+            call,
+            [
+                ("points", self.points.altered()),
+                ("lengths", self.lengths.altered()),
+                ("layers", self.layers.altered()),
+            ],
+        )
     }
 
     /// The plate as the safe interface takes it: with its layers, and without where all are 0.
@@ -57,11 +74,13 @@ impl<'a, Due, Tally> Handed<'a, Due, Tally> {
         plates
     }
 
-    pub fn holds(&self, slice: &str, call: &str, wrong: Option<Difference>) -> Result<(), String> {
-        match wrong {
-            None => Ok(()),
-            Some(wrong) => Err(self.described(&format!("{call}: of the {slice}, {wrong}"))),
-        }
+    /// It is an error where one of these slices holds wrong bits.
+    pub fn hold<const N: usize>(
+        &self,
+        call: &str,
+        slices: [(&str, Option<Difference>); N],
+    ) -> Result<(), String> {
+        lent_slices::hold(slices).map_err(|wrong| self.described(&format!("{call}: {wrong}")))
     }
 
     pub fn same<A: PartialEq + Debug>(
@@ -94,9 +113,9 @@ fn described(plate: &Plate, strategy: StartPointStrategy, text: &str) -> String 
     let Plate { points, lengths, layers, size } = plate;
     let mut text = format!("{text}\n  {} by {}, {strategy:?}", size.width, size.height);
     if points.len() <= 256 && lengths.len() <= 64 {
-        let bits: Vec<String> = points.iter().map(|c| format!("{:016x}", c.to_bits())).collect();
-        text +=
-            &format!("\n  lengths {lengths:?}\n  layers {layers:?}\n  points {}", bits.join(" "));
+        let points = hexadecimal(points);
+        let points = points.trim_start();
+        text += &format!("\n  lengths {lengths:?}\n  layers {layers:?}\n  points {points}");
     } else {
         let [lengths, layers] = [lengths.len(), layers.len()];
         text += &format!("\n  {lengths} lengths, {layers} layers, {} coordinates", points.len());

@@ -6,14 +6,14 @@ use twillharbor::Size;
 use crate::checker::squared;
 use crate::floats::{nudged, signed, with_exponent};
 use crate::lengths::whole_step;
+use crate::marked_paths::is_over_back_step;
 use crate::mujou::distance;
 use crate::plates::{LIMIT, Plate};
 use crate::rule::Retrace;
 use crate::rule::lengths::in_1024ths;
-use crate::rule::retrace::BACK_STEP;
-use crate::tally::{Tally, is_met};
+use crate::tally::{Cases, Listed, is_met};
 
-/// What a run meets, in the order of [`CASES`].
+/// What a run meets.
 #[derive(Debug, Clone, Copy, PartialEq, Eq)]
 pub enum Case {
     Nothing,
@@ -31,21 +31,26 @@ pub enum Case {
     Long,
 }
 
-pub const CASES: [(Case, &str); 13] = [
-    (Case::Nothing, "pairs of points that differ, of length 0"),
-    (Case::NoNormalSquare, "pairs of points that differ, with a squared distance below 2^-1022"),
-    (Case::Whole, "pairs of a whole number of 1,024ths"),
-    (Case::RootRoundedUp, "pairs that are rounded up to one with their distance's root"),
-    (Case::JustBelow, "pairs one step of their distance below one"),
-    (Case::JustAbove, "pairs one step of their distance above one"),
-    (Case::HalfOrMore, "pairs that lose half a 1,024th or more"),
-    (Case::Far, "pairs of 2^31 1,024ths or more"),
-    (Case::BackOverBack, "back-steps over back-steps"),
-    (Case::Cuts, "paths with cuts of 2^32 1,024ths or more"),
-    (Case::BackSteps, "paths with back-steps of 2^32 1,024ths or more"),
-    (Case::Jumps, "paths with jumps of 2^32 1,024ths or more"),
-    (Case::Long, "paths of 65,536 points or more"),
-];
+impl Listed for Case {
+    const LIST: &'static [(Self, &'static str)] = &[
+        (Self::Nothing, "pairs of points that differ, of length 0"),
+        (
+            Self::NoNormalSquare,
+            "pairs of points that differ, with a squared distance below 2^-1022",
+        ),
+        (Self::Whole, "pairs of a whole number of 1,024ths"),
+        (Self::RootRoundedUp, "pairs that are rounded up to one with their distance's root"),
+        (Self::JustBelow, "pairs one step of their distance below one"),
+        (Self::JustAbove, "pairs one step of their distance above one"),
+        (Self::HalfOrMore, "pairs that lose half a 1,024th or more"),
+        (Self::Far, "pairs of 2^31 1,024ths or more"),
+        (Self::BackOverBack, "back-steps over back-steps"),
+        (Self::Cuts, "paths with cuts of 2^32 1,024ths or more"),
+        (Self::BackSteps, "paths with back-steps of 2^32 1,024ths or more"),
+        (Self::Jumps, "paths with jumps of 2^32 1,024ths or more"),
+        (Self::Long, "paths of 65,536 points or more"),
+    ];
+}
 
 /// A run of as many plates meets every case.
 const ENOUGH: u64 = 5_000;
@@ -54,32 +59,23 @@ const LONG: usize = 65_536;
 
 /// How often each case was met.
 #[derive(Debug, Default)]
-pub struct Quoted(Tally<{ CASES.len() }>);
+pub struct Quoted(Cases<Case>);
 
 impl Quoted {
-    fn count_if(&self, holds: bool, case: Case) {
-        if holds {
-            self.0.count(case as usize);
-        }
-    }
-
     /// The path of a plate, if it is whole.
     pub fn path(&self, due: &Retrace) {
         let Retrace { path, marks, whole: true, lengths, .. } = due else {
             return;
         };
         path.windows(2).for_each(|ends| self.pair(ends[0], ends[1]));
-        let over_back = |&&[kind, reversed]: &&[u32; 2]| {
-            kind == BACK_STEP && marks[reversed as usize + 1][0] == BACK_STEP
-        };
-        for _ in marks.iter().filter(over_back) {
-            self.count_if(true, Case::BackOverBack);
+        for &mark in marks {
+            self.0.count_if(is_over_back_step(mark, marks), Case::BackOverBack);
         }
         let beyond = lengths.map(|sum| sum > u32::MAX.into());
         for (beyond, case) in beyond.into_iter().zip([Case::Cuts, Case::BackSteps, Case::Jumps]) {
-            self.count_if(beyond, case);
+            self.0.count_if(beyond, case);
         }
-        self.count_if(path.len() >= LONG, Case::Long);
+        self.0.count_if(path.len() >= LONG, Case::Long);
     }
 
     fn pair(&self, a: [f64; 2], b: [f64; 2]) {
@@ -89,23 +85,23 @@ impl Quoted {
         let (apart, squared) = (distance(a, b), squared(a, b));
         let length = in_1024ths(apart);
         let is_whole = |d: f64| d > 0.0 && (d * 1_024.0).fract() == 0.0;
-        self.count_if(length == 0, Case::Nothing);
-        self.count_if(squared < f64::MIN_POSITIVE, Case::NoNormalSquare);
-        self.count_if(is_whole(apart), Case::Whole);
+        self.0.count_if(length == 0, Case::Nothing);
+        self.0.count_if(squared < f64::MIN_POSITIVE, Case::NoNormalSquare);
+        self.0.count_if(is_whole(apart), Case::Whole);
         // The sign of a product and a difference that are rounded once is exact.
         let rounded_up = apart.mul_add(apart, -squared) > 0.0;
-        self.count_if(is_whole(apart) && rounded_up, Case::RootRoundedUp);
-        self.count_if(is_whole(apart.next_up()), Case::JustBelow);
-        self.count_if(is_whole(apart.next_down()), Case::JustAbove);
-        self.count_if((apart * 1_024.0).fract() >= 0.5, Case::HalfOrMore);
-        self.count_if(length >= 1 << 31, Case::Far);
+        self.0.count_if(is_whole(apart) && rounded_up, Case::RootRoundedUp);
+        self.0.count_if(is_whole(apart.next_up()), Case::JustBelow);
+        self.0.count_if(is_whole(apart.next_down()), Case::JustAbove);
+        self.0.count_if((apart * 1_024.0).fract() >= 0.5, Case::HalfOrMore);
+        self.0.count_if(length >= 1 << 31, Case::Far);
     }
 
     /// Prints how often each case was met, and says whether a run of that many plates met every one.
     pub fn print(&self, plates: u64) -> bool {
         println!("of the lengths of paths, in 1,024ths:");
-        self.0.print(CASES.map(|(_, name)| name));
-        is_met(plates, ENOUGH, self.0.numbers().into_iter())
+        self.0.print();
+        is_met(plates, ENOUGH, self.0.numbers())
     }
 }
 
@@ -162,28 +158,19 @@ fn beside(place: [f64; 2], random: &mut Random) -> [f64; 2] {
 
 #[cfg(test)]
 mod tests {
-    use twillharbor::Size;
     use twillharbor::StartPointStrategy::Inside;
 
-    use super::{CASES, Case, ENOUGH, Quoted};
+    use super::{Case, ENOUGH, Quoted};
     use crate::plates::Plate;
     use crate::reference::retrace;
-
-    #[test]
-    fn cases_stand_in_their_order() {
-        for (place, (case, _)) in CASES.into_iter().enumerate() {
-            assert_eq!(case as usize, place);
-        }
-    }
+    use crate::tally::Listed;
 
     /// What is met of a plate.
     fn met(contours: &[&[[f64; 2]]]) -> Vec<Case> {
-        let lengths = contours.iter().map(|contour| contour.len() as u32).collect();
-        let plate = Plate::new(contours.concat().concat(), lengths, Size::default());
+        let plate = Plate::of_contours(contours, [0; 2]);
         let quoted = Quoted::default();
         quoted.path(&retrace(&plate, Inside, usize::MAX).unwrap().unwrap());
-        let cases = CASES.into_iter().zip(quoted.0.numbers());
-        cases.filter(|(_, met)| *met > 0).map(|(case, _)| case.0).collect()
+        quoted.0.met()
     }
 
     #[test]
@@ -227,7 +214,7 @@ mod tests {
         let quoted = Quoted::default();
         assert!(quoted.print(ENOUGH - 1));
         assert!(!quoted.print(ENOUGH));
-        CASES.iter().for_each(|&(case, _)| quoted.count_if(true, case));
+        Case::LIST.iter().for_each(|&(case, _)| quoted.0.count(case));
         assert!(quoted.print(ENOUGH));
     }
 }

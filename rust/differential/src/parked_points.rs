@@ -7,7 +7,7 @@ use twillharbor::StartPointStrategy::{self, Home};
 use crate::floats::{nudged, signed, with_exponent};
 use crate::plates::{self, LIMIT, Plate};
 use crate::rule::{self, BAD_LAYER, Refused};
-use crate::tally::{Tally, is_met};
+use crate::tally::{Cases, Listed, is_met};
 
 /// Where the carriage is parked.
 #[derive(Debug, Clone, Copy)]
@@ -133,7 +133,7 @@ fn between_ends(plate: &Plate, ends: &[[f64; 2]], random: &mut Random) -> [f64; 
     point
 }
 
-/// What a run meets of parked points, in the order of [`CASES`].
+/// What a run meets of parked points.
 #[derive(Debug, Clone, Copy, PartialEq, Eq)]
 pub enum Case {
     Joined,
@@ -171,56 +171,52 @@ pub enum Case {
     Before7,
 }
 
-pub const CASES: [(Case, &str); 33] = [
-    (Case::Joined, "plates with Home that are not refused"),
-    (Case::Tied, "of these, several ends as near: the first leads"),
-    (Case::TiedContours, "ends of several contours as near, at points that differ"),
-    (Case::TiedEnds, "both ends of a contour as near, at points that differ"),
-    (Case::OnAnEnd, "parked on an end"),
-    (Case::LastLeads, "a last point leads"),
-    (Case::NearerWaits, "a nearer end of a higher layer does not start"),
-    (Case::AsNearWaits, "an end of a higher layer as near as the start"),
-    (Case::Limit, "a coordinate of magnitude 1,000,000"),
-    (Case::NegativeZero, "a coordinate -0"),
-    (Case::Subnormal, "a subnormal coordinate"),
-    (Case::NoCentre, "a point that is the centre of no plate"),
-    (Case::Far, "farther than 100,000 from every end"),
-    (Case::AsInside, "at the centre, compared with Inside"),
-    (Case::Blank, "no contour holds a point"),
-    (Case::CoordinateOff, "4 of a coordinate, the parked point being on the plate"),
-    (Case::Refused, "plates with Home refused for the parked point"),
-    (Case::XAlone, "4 of the parked point: x alone"),
-    (Case::YAlone, "4 of the parked point: y alone"),
-    (Case::Both, "4 of the parked point: both, so x"),
-    (Case::Nan, "4 of the parked point: NaN"),
-    (Case::Infinite, "4 of the parked point: infinity"),
-    (Case::NegativeInfinite, "4 of the parked point: -infinity"),
-    (Case::NextAbove, "4 of the parked point: the float above 1,000,000"),
-    (Case::NextBelow, "4 of the parked point: the float below -1,000,000"),
-    (Case::After1, "1 before the parked point"),
-    (Case::After2, "2 before the parked point"),
-    (Case::After3, "3 before the parked point"),
-    (Case::After13, "13 before the parked point"),
-    (Case::Before4, "the parked point before 4 of a coordinate"),
-    (Case::Before5, "the parked point before 5"),
-    (Case::Before6, "the parked point before 6"),
-    (Case::Before7, "the parked point before 7"),
-];
+impl Listed for Case {
+    const LIST: &'static [(Self, &'static str)] = &[
+        (Self::Joined, "plates with Home that are not refused"),
+        (Self::Tied, "of these, several ends as near: the first leads"),
+        (Self::TiedContours, "ends of several contours as near, at points that differ"),
+        (Self::TiedEnds, "both ends of a contour as near, at points that differ"),
+        (Self::OnAnEnd, "parked on an end"),
+        (Self::LastLeads, "a last point leads"),
+        (Self::NearerWaits, "a nearer end of a higher layer does not start"),
+        (Self::AsNearWaits, "an end of a higher layer as near as the start"),
+        (Self::Limit, "a coordinate of magnitude 1,000,000"),
+        (Self::NegativeZero, "a coordinate -0"),
+        (Self::Subnormal, "a subnormal coordinate"),
+        (Self::NoCentre, "a point that is the centre of no plate"),
+        (Self::Far, "farther than 100,000 from every end"),
+        (Self::AsInside, "at the centre, compared with Inside"),
+        (Self::Blank, "no contour holds a point"),
+        (Self::CoordinateOff, "4 of a coordinate, the parked point being on the plate"),
+        (Self::Refused, "plates with Home refused for the parked point"),
+        (Self::XAlone, "4 of the parked point: x alone"),
+        (Self::YAlone, "4 of the parked point: y alone"),
+        (Self::Both, "4 of the parked point: both, so x"),
+        (Self::Nan, "4 of the parked point: NaN"),
+        (Self::Infinite, "4 of the parked point: infinity"),
+        (Self::NegativeInfinite, "4 of the parked point: -infinity"),
+        (Self::NextAbove, "4 of the parked point: the float above 1,000,000"),
+        (Self::NextBelow, "4 of the parked point: the float below -1,000,000"),
+        (Self::After1, "1 before the parked point"),
+        (Self::After2, "2 before the parked point"),
+        (Self::After3, "3 before the parked point"),
+        (Self::After13, "13 before the parked point"),
+        (Self::Before4, "the parked point before 4 of a coordinate"),
+        (Self::Before5, "the parked point before 5"),
+        (Self::Before6, "the parked point before 6"),
+        (Self::Before7, "the parked point before 7"),
+    ];
+}
 
 /// A run of as many plates meets every case.
 const ENOUGH: u64 = 10_000;
 
 /// How often each case was met.
 #[derive(Debug, Default)]
-pub struct Met(Tally<{ CASES.len() }>);
+pub struct Met(Cases<Case>);
 
 impl Met {
-    fn count_if(&self, holds: bool, case: Case) {
-        if holds {
-            self.0.count(case as usize);
-        }
-    }
-
     /// A plate, if its strategy is Home, and why it is refused.
     pub fn plate(&self, plate: &Plate, strategy: StartPointStrategy, due: Result<(), Refused>) {
         match (strategy, due) {
@@ -233,7 +229,7 @@ impl Met {
     /// A plate parked at its centre, and what is due of it: with Inside the same, unless the centre
     /// is off the plate.
     pub fn as_inside<Due>(&self, due: &Result<Due, Refused>) {
-        self.count_if(due.is_ok(), Case::AsInside);
+        self.0.count_if(due.is_ok(), Case::AsInside);
     }
 
     /// A call for which this number is due is lent a work slice, which should have a number for
@@ -250,74 +246,74 @@ impl Met {
             && rule::parked(point).is_err()
             && number == 4
         {
-            self.count_if(work < plate.lengths.len(), Case::Before5);
-            self.count_if(slice == 0 && !plate.points.is_empty(), Case::Before6);
+            self.0.count_if(work < plate.lengths.len(), Case::Before5);
+            self.0.count_if(slice == 0 && !plate.points.is_empty(), Case::Before6);
         }
     }
 
     fn joined(&self, plate: &Plate, point: Point) {
         let Point { x, y } = point;
         let any = |holds: fn(f64) -> bool| holds(x) || holds(y);
-        self.count_if(true, Case::Joined);
-        self.count_if(any(|c| c.abs() == LIMIT), Case::Limit);
-        self.count_if(any(|c| c == 0.0 && c.is_sign_negative()), Case::NegativeZero);
-        self.count_if(any(f64::is_subnormal), Case::Subnormal);
-        self.count_if(any(|c| c < 0.0 || (2.0 * c).fract() != 0.0), Case::NoCentre);
+        self.0.count(Case::Joined);
+        self.0.count_if(any(|c| c.abs() == LIMIT), Case::Limit);
+        self.0.count_if(any(|c| c == 0.0 && c.is_sign_negative()), Case::NegativeZero);
+        self.0.count_if(any(f64::is_subnormal), Case::Subnormal);
+        self.0.count_if(any(|c| c < 0.0 || (2.0 * c).fract() != 0.0), Case::NoCentre);
         self.starts(plate, point);
         let held = rule::held_at_start(plate, Home(point));
-        self.count_if(held.nearer, Case::NearerWaits);
-        self.count_if(held.as_near, Case::AsNearWaits);
+        self.0.count_if(held.nearer, Case::NearerWaits);
+        self.0.count_if(held.as_near, Case::AsNearWaits);
     }
 
     fn starts(&self, plate: &Plate, point: Point) {
         let leaders = rule::leaders(plate, Home(point));
         let Some(&([contour, last], [x, y])) = leaders.first() else {
-            return self.count_if(true, Case::Blank);
+            return self.0.count(Case::Blank);
         };
         // A single point is both ends of its contour.
         let others = || leaders.iter().filter(|&&(_, end)| end != [x, y]);
         let of_others = leaders.iter().any(|&([number, _], _)| number != contour);
-        self.count_if(of_others || others().count() > 0, Case::Tied);
-        self.count_if(others().any(|&([number, _], _)| number != contour), Case::TiedContours);
-        self.count_if(others().any(|&([number, _], _)| number == contour), Case::TiedEnds);
-        self.count_if([x, y] == [point.x, point.y], Case::OnAnEnd);
-        self.count_if(last == 1, Case::LastLeads);
-        self.count_if((x - point.x).hypot(y - point.y) > 100_000.0, Case::Far);
+        self.0.count_if(of_others || others().count() > 0, Case::Tied);
+        self.0.count_if(others().any(|&([number, _], _)| number != contour), Case::TiedContours);
+        self.0.count_if(others().any(|&([number, _], _)| number == contour), Case::TiedEnds);
+        self.0.count_if([x, y] == [point.x, point.y], Case::OnAnEnd);
+        self.0.count_if(last == 1, Case::LastLeads);
+        self.0.count_if((x - point.x).hypot(y - point.y) > 100_000.0, Case::Far);
     }
 
     fn refused(&self, plate: &Plate, point: Point, (number, place): Refused) {
         let Point { x, y } = point;
         if rule::parked(point).is_ok() {
-            return self.count_if(number == 4, Case::CoordinateOff);
+            return self.0.count_if(number == 4, Case::CoordinateOff);
         }
-        self.count_if(number == 1, Case::After1);
-        self.count_if(number == 2, Case::After2);
-        self.count_if(number == 3, Case::After3);
-        self.count_if(number == BAD_LAYER, Case::After13);
+        self.0.count_if(number == 1, Case::After1);
+        self.0.count_if(number == 2, Case::After2);
+        self.0.count_if(number == 3, Case::After3);
+        self.0.count_if(number == BAD_LAYER, Case::After13);
         if number != 4 {
             return;
         }
         let off = |c: f64| rule::on_plate(&[c]).is_err();
         let first = if place == 0 { x } else { y };
-        self.count_if(true, Case::Refused);
-        self.count_if(off(x) && !off(y), Case::XAlone);
-        self.count_if(off(y) && !off(x), Case::YAlone);
-        self.count_if(off(x) && off(y), Case::Both);
-        self.count_if(first.is_nan(), Case::Nan);
-        self.count_if(first == f64::INFINITY, Case::Infinite);
-        self.count_if(first == f64::NEG_INFINITY, Case::NegativeInfinite);
-        self.count_if(first == LIMIT.next_up(), Case::NextAbove);
-        self.count_if(first == -LIMIT.next_up(), Case::NextBelow);
-        self.count_if(rule::on_plate(&plate.points).is_err(), Case::Before4);
-        self.count_if(plate.points.is_empty(), Case::Before7);
+        self.0.count(Case::Refused);
+        self.0.count_if(off(x) && !off(y), Case::XAlone);
+        self.0.count_if(off(y) && !off(x), Case::YAlone);
+        self.0.count_if(off(x) && off(y), Case::Both);
+        self.0.count_if(first.is_nan(), Case::Nan);
+        self.0.count_if(first == f64::INFINITY, Case::Infinite);
+        self.0.count_if(first == f64::NEG_INFINITY, Case::NegativeInfinite);
+        self.0.count_if(first == LIMIT.next_up(), Case::NextAbove);
+        self.0.count_if(first == -LIMIT.next_up(), Case::NextBelow);
+        self.0.count_if(rule::on_plate(&plate.points).is_err(), Case::Before4);
+        self.0.count_if(plate.points.is_empty(), Case::Before7);
     }
 
     /// Prints how often each case was met, and says whether a run of that many plates met every
     /// one.
     pub fn print(&self, plates: u64) -> bool {
         println!("met of parked points:");
-        self.0.print(CASES.map(|(_, name)| name));
-        is_met(plates, ENOUGH, self.0.numbers().into_iter())
+        self.0.print();
+        is_met(plates, ENOUGH, self.0.numbers())
     }
 }
 
@@ -327,16 +323,10 @@ mod tests {
     use twillharbor::StartPointStrategy::{Home, Inside};
     use twillharbor::{Point, Size};
 
-    use super::{CASES, Case, Met, PARKINGS, off_the_plate, on_the_plate, parked};
+    use super::{Case, Met, PARKINGS, off_the_plate, on_the_plate, parked};
     use crate::plates::{KINDS, LIMIT, Plate, small_plate};
     use crate::rule::{self, checked};
-
-    #[test]
-    fn cases_stand_in_their_order() {
-        for (place, (case, _)) in CASES.into_iter().enumerate() {
-            assert_eq!(case as usize, place);
-        }
-    }
+    use crate::tally::Listed;
 
     #[test]
     fn parked_points_are_on_the_plate_or_off_it() {
@@ -368,12 +358,10 @@ mod tests {
 
     fn met(lengths: &[u32], layers: &[u32], [x, y]: [f64; 2]) -> Vec<Case> {
         let points: Vec<f64> = (0..2 * lengths.iter().sum::<u32>()).map(f64::from).collect();
-        let plate = Plate::new(points, lengths.to_vec(), Size::default());
-        let plate = Plate { layers: layers.to_vec(), ..plate };
+        let plate = Plate::new(points, lengths.to_vec(), Size::default()).with_layers(layers);
         let (met, home) = (Met::default(), Home(Point { x, y }));
         met.plate(&plate, home, checked(&plate, home));
-        let counts = CASES.into_iter().zip(met.0.numbers());
-        counts.filter(|(_, met)| *met > 0).map(|(case, _)| case.0).collect()
+        met.0.met()
     }
 
     #[test]
@@ -403,7 +391,7 @@ mod tests {
         let lent = |strategy, number| {
             let met = Met::default();
             met.lent(&plate, strategy, number, 0, 0);
-            met.0.numbers().into_iter().sum::<u64>()
+            met.0.numbers().sum::<u64>()
         };
         let off = Home(Point { x: f64::NAN, y: 0.0 });
         assert_eq!([lent(off, 4), lent(off, 13), lent(Inside, 4)], [2, 0, 0]);
@@ -415,7 +403,7 @@ mod tests {
         let met = Met::default();
         assert!(met.print(9_999));
         assert!(!met.print(10_000));
-        CASES.iter().for_each(|&(case, _)| met.count_if(true, case));
+        Case::LIST.iter().for_each(|&(case, _)| met.0.count(case));
         assert!(met.print(10_000));
     }
 }

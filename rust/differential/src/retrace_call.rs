@@ -16,16 +16,16 @@ use twillharbor::StartPointStrategy::{self, Home, Inside, Outside};
 use twillharbor::{MarkedPath, PairKind, Point, Size, c};
 
 use crate::checker::{self, Claim, Counts, Lengths};
-use crate::handed::{Handed, numbers};
 use crate::layers::{Met, in_seeded_layers};
-use crate::lent::Lent;
-use crate::meeting::Meeting;
+use crate::lent_slices::Lent;
+use crate::meeting_plates::Meeting;
 use crate::near::HowNear;
-use crate::parked;
+use crate::parked_points;
+use crate::path_lengths::Quoted;
+use crate::plate_case::{Handed, numbers};
 use crate::plates::{Plate, damaged_somehow};
-use crate::quoted::Quoted;
 use crate::reference::retrace;
-use crate::retrace_plates::{KINDS, Kind, LARGE, Large, large_plate, plate};
+use crate::retrace_plates::{KINDS, Kind, Large, plate, run_large};
 use crate::rule::{self, Answer, NUMBERS, Retrace};
 use crate::run::{self, Plan};
 use crate::touches::Seen;
@@ -45,7 +45,7 @@ struct Tally {
     /// Path points, cuts, back-steps, jumps and touches.
     counts: [AtomicU64; 5],
     met: Met,
-    parked: parked::Met,
+    parked: parked_points::Met,
     seen: Seen,
     near: HowNear,
     quoted: Quoted,
@@ -84,36 +84,28 @@ impl Tally {
 pub fn run(plan: Plan) -> bool {
     println!("retrace: {} plates, seed {}", plan.pairs, plan.seed);
     let tally = Tally::default();
-    let same = run::run_in_chunks(plan, CHUNK, &KINDS, |kind, random| {
-        let seed = random.bits();
-        let number = run::number_of(&kind, &KINDS);
-        compare(kind, seed, &tally).map_err(|e| {
-            format!("{e}\n  again: differential retrace-plate --kind {number} --seed {seed}")
-        })
+    let same = run::run_seeded(plan, CHUNK, &KINDS, "retrace-plate", |kind, seed| {
+        compare(kind, seed, &tally)
     });
     if !same {
         return false;
     }
-    let of_kinds = plan.pairs;
-    let plan = Plan { pairs: LARGE.len() as u64, ..plan };
-    println!("large plates: {}, seed {}", plan.pairs, plan.seed);
-    let same = run::run_in_chunks(plan, 1, &LARGE, |large, random| {
-        let plate = large_plate(large, random);
-        sound(&handed(&plate, Inside, MOST, &tally, random)?, 2, random)?;
+    let same = run_large(plan, |large, plate, random| {
+        sound(&handed(plate, Inside, MOST, &tally, random)?, 2, random)?;
         if matches!(large, Large::Meeting(Meeting::Chain, _)) {
             // From some ends its path passes 1,048,576 points, whose landings take long to check.
             return Ok(());
         }
-        let home = Home(parked::on_the_plate(&plate, random));
-        sound(&handed(&plate, home, MOST, &tally, random)?, 2, random)
+        let home = Home(parked_points::on_the_plate(plate, random));
+        sound(&handed(plate, home, MOST, &tally, random)?, 2, random)
     });
     tally.print();
     let met = [
-        tally.met.print(of_kinds),
-        tally.parked.print(of_kinds),
-        tally.seen.print(of_kinds),
-        tally.near.print(of_kinds),
-        tally.quoted.print(of_kinds),
+        tally.met.print(plan.pairs),
+        tally.parked.print(plan.pairs),
+        tally.seen.print(plan.pairs),
+        tally.near.print(plan.pairs),
+        tally.quoted.print(plan.pairs),
     ];
     met == [true; 5] && same
 }
@@ -132,7 +124,7 @@ pub fn run_one(kind: u64, seed: u64) -> Result<bool, String> {
 fn compare(kind: Kind, seed: u64, tally: &Tally) -> Result<(), String> {
     let random = &mut Random::new(seed);
     let plate = in_seeded_layers(plate(kind, random), seed);
-    let of_home = &mut parked::seeded(seed);
+    let of_home = &mut parked_points::seeded(seed);
     let large = plate.points.len() > 1_000 || plate.lengths.len() > 50;
     let cap = cap(&plate, random);
     if large {
@@ -155,8 +147,8 @@ fn compare(kind: Kind, seed: u64, tally: &Tally) -> Result<(), String> {
 
 /// The plate with a parked point, with one off the plate, and damaged copies with either.
 fn home(plate: &Plate, large: bool, tally: &Tally, random: &mut Random) -> Result<(), String> {
-    let on = parked::on_the_plate(plate, random);
-    let off = parked::off_the_plate(on, random);
+    let on = parked_points::on_the_plate(plate, random);
+    let off = parked_points::off_the_plate(on, random);
     let case = handed(plate, Home(on), cap(plate, random), tally, random)?;
     sound(&case, if large { 2 } else { 6 }, random)?;
     refused(plate, Home(off), tally, random)?;
@@ -173,9 +165,7 @@ fn home(plate: &Plate, large: bool, tally: &Tally, random: &mut Random) -> Resul
 /// With the centre for its parked point the plate of a case of Inside gives what that one gives.
 fn at_the_centre(inside: &Case, random: &mut Random) -> Result<(), String> {
     let plate = inside.plate;
-    let strategy = Home(rule::centre(plate.size));
-    // A centre may be off the plate.
-    let due = rule::checked(plate, strategy).and_then(|()| inside.due.clone());
+    let (strategy, due) = inside.at_the_centre();
     inside.tally.parked.as_inside(&due);
     let points = due.as_ref().map_or(0, |due| due.marks.len());
     let case = Case::new(plate, strategy, inside.tally, Ok(due), random)?;
@@ -445,13 +435,16 @@ impl Case<'_> {
             Ok(due) => (&due.path[..written], &due.marks[..written]),
             Err(_) => (&[], &[]),
         };
-        self.holds("path slice", name, path.difference(path_due))?;
-        self.holds("marks slice", name, marks.difference(marks_due))?;
-        let free = number == 0 || number == 6;
-        let altered = if free { work.margins_altered() } else { work.altered() };
-        self.holds("work", name, altered)?;
-        let altered = if free { distances.margins_altered() } else { distances.altered() };
-        self.holds("distances", name, altered)?;
+        let is_free = number == 0 || number == 6;
+        self.hold(
+            name,
+            [
+                ("path slice", path.difference(path_due)),
+                ("marks slice", marks.difference(marks_due)),
+                ("work", work.altered_unless(is_free)),
+                ("distances", distances.altered_unless(is_free)),
+            ],
+        )?;
         self.inputs_kept(name)
     }
 
@@ -572,21 +565,17 @@ mod tests {
 
     use super::{MOST, Tally, compare, handed};
     use crate::checker::{self, Claim, Counts, Lengths};
-    use crate::meeting::{self, MEETINGS};
+    use crate::meeting_plates::{self, MEETINGS};
     use crate::plates::Plate;
     use crate::reference::retrace;
     use crate::retrace_plates::KINDS;
     use crate::rule::Retrace;
+    use crate::run::assert_every_kind_agrees;
 
     #[test]
     fn every_kind_agrees_and_every_refusal_is_due() {
-        let mut random = Random::new(1);
         let tally = Tally::default();
-        for (kind, name) in KINDS {
-            for _ in 0..5 {
-                compare(kind, random.bits(), &tally).unwrap_or_else(|e| panic!("{name}: {e}"));
-            }
-        }
+        assert_every_kind_agrees(&KINDS, 5, |kind, random| compare(kind, random.bits(), &tally));
         for (number, calls) in tally.calls.iter().enumerate() {
             let calls = calls.load(Ordering::Relaxed);
             assert!(calls > 50, "{calls} calls, where {number} is due");
@@ -649,7 +638,7 @@ mod tests {
         let mut random = Random::new(3);
         let mut sums = [0; 2];
         for meeting in MEETINGS.into_iter().flat_map(|(meeting, _)| [meeting; 20]) {
-            let plate = meeting::plate(meeting, &mut random);
+            let plate = meeting_plates::plate(meeting, &mut random);
             let due = retrace(&plate, Inside, 120).unwrap().unwrap();
             if due.whole {
                 assert_eq!(checked(&plate, &due, &due.marks), Ok(()));

@@ -3,13 +3,13 @@
 use Rattle.std.specs.Prelude.{◌≡◌, refl}
 use Rattle.std.proofs.Common.{sym, ap, ◌∙◌, subst, arith}
 use mathlib.Core.List.{List, [], ◌∷◌, ◌++◌, append_assoc}
-use Prim.Native.Nat.{ℕ, zero, suc, ◌-◌, ◌≤◌, ◌<◌}
+use Prim.Native.Nat.{ℕ, zero, suc, ◌+◌, ◌-◌, ◌≤◌, ◌<◌}
 use Rattle.std.proofs.Math.ListN.{length}
 use Rattle.rules.specs.Tools.{down_to}
 use Rattle.rules.specs.HandedOver.{Plate, Contour, at, contours, vertex_at, layer_at}
 use Rattle.rules.specs.GridAndNearest.{nearest}
 use Rattle.rules.specs.Retrace.{step_at, vertex_of, walk_to, walk_back, emit, begin, path_points, place_in, entered, retrace}
-use Rattle.rules.specs.Marks.{back_step_kind, Step, land, cut_up, cut_down, back_step, landing_kind, marks}
+use Rattle.rules.specs.Marks.{back_step_kind, cut_kind, kind_at, reference_at, Step, land, cut_up, cut_down, back_step, landing_kind, marks}
 use Rattle.rules.specs.OrderAndStraight.{contour_number}
 use Rattle.statement.specs.PathStatement.{Draws, NeverFall, LayerStatement}
 use Rattle.rules.specs.Contours.{contour_count, IsContour, Of}
@@ -149,6 +149,11 @@ module _ (p : Plate) where
   some_never_falls t h i j l m c d x y =
       let path = retrace p in
       rises_at path (retrace_keeps p Layers begins enters t h).rises i j l m d (news path j d m y) c (news path i c (omega arith) x)
+
+-- a cut draws: the lower vertex number of its segment is a vertex of its contour
+pub cut_draws : (p : Plate) (ms : List ℕ) (k : ℕ) (c : Contour) → IsContour p c → kind_at ms k ≡ cut_kind → c.first ≤ reference_at ms k →
+    reference_at ms k < c.first + c.last → Draws p ms k c
+cut_draws p ms k c i e l h = record { contour = i; new = λ f. omega arith; of = (l, omega arith) }
 
 retrace_never_falls : (p : Plate) → AllTakePart p → NeverFall p (length (retrace p)) (marks (retrace p))
 unfolding contour_count NeverFall

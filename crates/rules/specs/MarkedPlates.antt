@@ -347,6 +347,12 @@ table =
     -- C = 0, with a path of six points and with none
     ∷ retrace_on E 1 1 100000 2 ⇒ retraced (refuses 6 0) (unwritten_path 1) (unwritten 1)
     ∷ retrace_on A 0 0 16384 0 ⇒ retraced (joined 0 0 0 0 (0, 0, 0)) [] []
+    -- a result alters nothing beyond it
+    ∷ retrace_on E 15 16 100000 2
+    ⇒ retraced (joined 6 2 2 1 (8192, 8192, 1024))
+    (along whole ((0, 0) ∷ (4, 0) ∷ (8, 0) ∷ (4, 0) ∷ (0, 0) ∷ (0, 1) ∷ []) ++ unwritten_path 3)
+    (pairs ((0, 0) ∷ (1, 0) ∷ (1, 1) ∷ (2, 1) ∷ (2, 0) ∷ (3, 3) ∷ []) ++ unwritten 4)
+    ∷ order_on G 9 3 ⇒ ordered (gives 3) (pairs ((0, 0) ∷ (1, 0) ∷ (2, 0) ∷ []) ++ unwritten 3)
     -- C is at most 1,048,576 for straight and retrace
     ∷ room_in 2097154 ⇒ room 1048577 1048576 1048576
     -- 7: the start call only; a contour that holds no point is none
@@ -430,6 +436,21 @@ table =
     (along whole ((25, 1) ∷ (6, 1) ∷ (5, 1) ∷ (6, 1) ∷ (25, 1) ∷ (44, 1) ∷ []))
     ((0, 3) ∷ (3, 0) ∷ (3, 2) ∷ (2, 1) ∷ (2, 0) ∷ (3, 1) ∷ [])
     (joined 6 0 2 3 (0, 20480, 39936))
+    -- the row above too
+    ∷ retraces (drawn whole ((1, 75) ∷ [] ∣ (1, 25) ∷ [] ∣ (1, 77) ∷ [] ∣ (1, 50) ∷ [] ∣ []) 0 100 Inside)
+    (along whole ((1, 50) ∷ (1, 75) ∷ (1, 77) ∷ (1, 75) ∷ (1, 50) ∷ (1, 25) ∷ []))
+    ((0, 3) ∷ (3, 0) ∷ (3, 2) ∷ (2, 1) ∷ (2, 0) ∷ (3, 1) ∷ [])
+    (joined 6 0 2 3 (0, 27648, 53248))
+    -- not those within 2
+    ∷ retraces (drawn whole ((23, 3) ∷ [] ∣ (22, 3) ∷ (23, 5) ∷ [] ∣ (50, 2) ∷ [] ∣ []) 50 0 Outside)
+    (along whole ((50, 2) ∷ (23, 3) ∷ (23, 5) ∷ (22, 3) ∷ []))
+    ((0, 3) ∷ (3, 0) ∷ (3, 2) ∷ (1, 1) ∷ [])
+    (joined 4 1 0 2 (2289, 0, 29714))
+    -- samples in other cells are not queried again
+    ∷ retraces (drawn whole ((30, 2) ∷ [] ∣ (50, 0) ∷ [] ∣ (27, 0) ∷ (27, 1) ∷ [] ∣ []) 0 0 Outside)
+    (along whole ((50, 0) ∷ (30, 2) ∷ (27, 0) ∷ (27, 1) ∷ []))
+    ((0, 1) ∷ (3, 0) ∷ (3, 2) ∷ (1, 2) ∷ [])
+    (joined 4 1 0 2 (1024, 0, 24274))
     -- cells around each point are listed, not only around the ends
     ∷ retraces (drawn whole ((4, 0) ∷ [] ∣ (1, 0) ∷ [] ∣ (3, 0) ∷ [] ∣ (2, 0) ∷ (1, 0) ∷ (4, 0) ∷ [] ∣ []) 4 0 Outside)
     (along whole ((4, 0) ∷ (4, 0) ∷ (1, 0) ∷ (2, 0) ∷ (1, 0) ∷ (1, 0) ∷ (1, 0) ∷ (2, 0) ∷ (3, 0) ∷ []))
@@ -445,6 +466,31 @@ table =
     (along whole ((1, 0) ∷ (4, 0) ∷ (8, 0) ∷ (8, 0) ∷ (4, 0) ∷ []))
     ((0, 2) ∷ (3, 1) ∷ (1, 0) ∷ (4, 3) ∷ (1, 3) ∷ [])
     (touching 5 2 0 1 1 (8192, 0, 3072))
+    -- cells are listed by rows, then columns
+    ∷ retraces (drawn whole ((27, 1) ∷ [] ∣ (27, 2) ∷ (28, 1) ∷ [] ∣ (0, 1) ∷ [] ∣ []) 0 0 Inside)
+    (along whole ((0, 1) ∷ (27, 1) ∷ (28, 1) ∷ (27, 2) ∷ []))
+    ((0, 3) ∷ (3, 0) ∷ (3, 2) ∷ (1, 1) ∷ [])
+    (joined 4 1 0 2 (1448, 0, 28672))
+    -- rows from the lowest
+    ∷ retraces (drawn whole ((8, 1) ∷ [] ∣ (8, 2) ∷ (7, 1) ∷ [] ∣ (50, 1) ∷ [] ∣ []) 8 0 Outside)
+    (along whole ((50, 1) ∷ (8, 1) ∷ (7, 1) ∷ (8, 2) ∷ []))
+    ((0, 3) ∷ (3, 0) ∷ (3, 2) ∷ (1, 1) ∷ [])
+    (joined 4 1 0 2 (1448, 0, 44032))
+    -- columns from the lowest
+    ∷ retraces (drawn whole ((50, 0) ∷ [] ∣ (8, 0) ∷ (7, 0) ∷ [] ∣ (7, 0) ∷ (8, 0) ∷ [] ∣ []) 8 0 Outside)
+    (along whole ((50, 0) ∷ (8, 0) ∷ (7, 0) ∷ (7, 0) ∷ (8, 0) ∷ []))
+    ((0, 0) ∷ (3, 1) ∷ (1, 1) ∷ (4, 3) ∷ (1, 3) ∷ [])
+    (touching 5 2 0 1 1 (2048, 0, 43008))
+    -- the point's own cell is not listed before the row below it
+    ∷ retraces (drawn whole ((0, 2) ∷ (0, 1) ∷ [] ∣ (29, 1) ∷ [] ∣ (0, 1) ∷ (0, 2) ∷ [] ∣ []) 0 0 Outside)
+    (along whole ((29, 1) ∷ (0, 1) ∷ (0, 2) ∷ (0, 1) ∷ (0, 1) ∷ (0, 2) ∷ []))
+    ((0, 2) ∷ (3, 1) ∷ (1, 0) ∷ (2, 1) ∷ (4, 3) ∷ (1, 3) ∷ [])
+    (touching 6 2 1 1 1 (2048, 1024, 29696))
+    -- within a cell from the lowest vertex
+    ∷ retraces (drawn whole ((0, 1) ∷ (0, 1) ∷ [] ∣ (0, 2) ∷ [] ∣ (34, 3) ∷ [] ∣ []) 0 0 Outside)
+    (along whole ((34, 3) ∷ (0, 2) ∷ (0, 1) ∷ (0, 1) ∷ []))
+    ((0, 3) ∷ (3, 2) ∷ (3, 0) ∷ (1, 0) ∷ [])
+    (joined 4 1 0 2 (0, 0, 35855))
     -- ---- retrace and marks
     -- the place is the fresh one, not the cached one
     ∷ retraces (drawn whole ((1, 8) ∷ [] ∣ (7, 0) ∷ [] ∣ (7, 2) ∷ [] ∣ []) 0 0 Outside)
@@ -564,9 +610,19 @@ table =
     ∷ order_in 3 (in_layers (15 ∷ 16 ∷ 17 ∷ []) three_points) ⇒ ordered (refuses 13 1) (unwritten 6)
     ∷ retrace_in 3 (in_layers (0 ∷ 16 ∷ 0 ∷ []) three_points) ⇒ retraced (refuses 13 1) (unwritten_path 6) (unwritten 6)
     ∷ straight_in 2 (in_layers (0 ∷ 0 ∷ 0 ∷ 0 ∷ 0 ∷ 4294967295 ∷ []) skipping) ⇒ straightened (refuses 13 5) (unwritten_path 4)
-    -- 3 before 13, and 13 before 4
+    -- 1, 2 and 3 before 13, of either kind
+    ∷ start_on (in_layers [] (handed [] (replicate 4097 0))) ⇒ starts (refuses 1 0)
+    ∷ start_on (in_layers (replicate 4097 16) (handed [] (replicate 4097 0))) ⇒ starts (refuses 1 0)
+    ∷ start_on (in_layers [] (handed [] (65537 ∷ []))) ⇒ starts (refuses 2 0)
+    ∷ start_on (in_layers (16 ∷ []) (handed [] (65537 ∷ []))) ⇒ starts (refuses 2 0)
     ∷ start_on (in_layers [] (handed (nan ∷ []) (1 ∷ []))) ⇒ starts (refuses 3 0)
+    ∷ start_on (in_layers (16 ∷ []) (handed (nan ∷ []) (1 ∷ []))) ⇒ starts (refuses 3 0)
+    -- 13, of either kind, before 4; 13 before 5, 6 and 7
     ∷ start_on (in_layers (16 ∷ []) (handed (nan ∷ nan ∷ []) (1 ∷ []))) ⇒ starts (refuses 13 0)
+    ∷ start_on (in_layers [] (handed (nan ∷ nan ∷ []) (1 ∷ []))) ⇒ starts (refuses 13 1)
+    ∷ order_on (in_layers (16 ∷ 0 ∷ 0 ∷ []) three_points) 0 0 ⇒ ordered (refuses 13 0) []
+    ∷ retrace_on (in_layers (16 ∷ 0 ∷ 0 ∷ []) three_points) 0 0 0 0 ⇒ retraced (refuses 13 0) [] []
+    ∷ start_on (in_layers (16 ∷ []) (handed [] (0 ∷ []))) ⇒ starts (refuses 13 0)
     -- What no call reaches, since it refuses with 13: a contour with a layer above 15 is never chosen, and the vertex numbers of later contours count its
     -- points.
     ∷ rules_on (in_layers (16 ∷ 15 ∷ 17 ∷ []) three_points) ⇒ ruled (gives (1, forward)) (pairs ((1, 0) ∷ [])) (pairs ((0, 1) ∷ []))

@@ -68,7 +68,12 @@ pub fn write_block(bytes: &mut [u8], number: u64, coordinates: &[f64])
 fn is_clear(bytes: &[u8]) -> bool
     ensures { result ≡ eqb (from_bytes bytes.now) 0 }
 {
-    bytes.iter().all(|&b| b == 0)
+    for &b in bytes {
+        if b != 0 {
+            return false;
+        }
+    }
+    true
 }
 
 // Whether a bit pattern is that of a number on the plate: a pattern beyond the infinities' is a NaN's. No `is_nan`: `from_bits` takes no pattern of a NaN.

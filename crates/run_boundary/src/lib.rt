@@ -83,23 +83,23 @@ pub fn set_last(marks: &mut [u32], kind: u32, reference: u32)
     }
 }
 
-// The case's name, the lengths of the slices lent, where they are told, and the call's numbers.
+// The case's name, the lengths of the slices lent, where they are told, and the call's numbers. What cannot be written is lost, here and in the programs, and the runs go on.
 pub fn tell<R: Print, N: Display>(
     rt: &R,
     name: &str,
     lengths: &[usize],
     numbers: &[N],
 ) -> io::Result<()> {
-    print!(rt; "{name}")?;
+    let _ = print!(rt; "{name}");
     if !lengths.is_empty() {
-        print!(rt; ", slices of")?;
+        let _ = print!(rt; ", slices of");
         for length in lengths {
-            print!(rt; " {length}")?;
+            let _ = print!(rt; " {length}");
         }
     }
-    print!(rt; ":")?;
+    let _ = print!(rt; ":");
     for number in numbers {
-        print!(rt; " {number}")?;
+        let _ = print!(rt; " {number}");
     }
     Ok(())
 }

@@ -54,15 +54,16 @@ fn caches_around(
     frame.layout
 }
 
-// Copies the cached entries of all contours.
+// Copies the cached entries of all contours. By index: `copy_from_slice` would have the archive for C need `memmove` from outside.
 fn copy_entries(work: &[u32], lay: Layout, entries: &mut [u32])
     requires laid { Laid lay (length work.now) }
     requires room { lay.contours ≤ length entries.old }
     ensures { (j : ℕ) → j < lay.contours → get_or entries.new j 0 ≡ from work.now lay.entries j }
 {
-    let start = lay.entries;
-    let end = start + lay.contours;
-    entries[0..lay.contours].copy_from_slice(&work[start..end]);
+    for j in 0..lay.contours {
+        let e = lay.entries + j;
+        entries[j] = work[e];
+    }
 }
 
 // The length of a contour, or 0 where there is none of that number: none and an empty one are refused alike.

@@ -95,10 +95,10 @@ fn sized_reading<'a>(
         return Ok(None);
     };
     let read = twillharbor_read_file(part, path.as_mut_slice());
-    let same = then.unlike(path.as_slice()) == 0;
     let numbers = [read.number, read.place, read.points];
+    let agrees = at.after(4).unlike(&numbers) == 0 && then.unlike(path.as_slice()) == 0;
     Ok(Some(RowOutcome {
-        agrees: at.after(4).unlike(&numbers) == 0 && same,
+        agrees,
         end: then.after(r.room),
     }))
 }

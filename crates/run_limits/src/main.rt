@@ -57,7 +57,8 @@ struct LentLengths {
 // A line with the call's numbers.
 fn show<R: Print, N: Display>(rt: &R, name: &str, numbers: &[N]) -> io::Result<()> {
     tell(rt, name, &[], numbers)?;
-    println!(rt; "")
+    let _ = println!(rt; "");
+    Ok(())
 }
 
 // The start call, Outside, on a plate of 10 by 10. The order and the straight call below have the same plate.
@@ -127,9 +128,10 @@ fn retrace<R: Print + AllocGlobal>(
         distances.as_mut_slice(),
     );
     let lengths = [lent.path, lent.marks, lent.work, lent.distances];
-    print!(rt; "retrace, ")?;
+    let _ = print!(rt; "retrace, ");
     tell(rt, name, &lengths, &numbers_of(r))?;
-    println!(rt; "")
+    let _ = println!(rt; "");
+    Ok(())
 }
 
 // The start call on one contour of two points, (ax, 0) and (0, by).
@@ -322,11 +324,11 @@ fn too_many_points_retrace<R: Print + AllocGlobal>(rt: &R) -> io::Result<()> {
 // The four calls, with slices that are enough for one point in 4,096 contours: C = 1, with u32 work of 1 + 4 + 8 x 4,096 + 16,384.
 fn four_calls<R: Print + AllocGlobal>(rt: &R, name: &str, p: LayeredPlate<'_>) -> io::Result<()> {
     let mut work = [0u32; MOST_CONTOURS];
-    print!(rt; "start, ")?;
+    let _ = print!(rt; "start, ");
     start(rt, name, p)?;
-    print!(rt; "order, ")?;
+    let _ = print!(rt; "order, ");
     order(rt, name, p, &mut [0; 2], &mut work)?;
-    print!(rt; "straight, ")?;
+    let _ = print!(rt; "straight, ");
     straight(rt, name, p, &mut [0.0; 2], &mut work)?;
     let enough = 5 + 8 * MOST_CONTOURS + FIXED_WORK;
     retrace_each(rt, name, p, &[(2, 2, enough, MOST_CONTOURS)])
@@ -421,13 +423,13 @@ fn four_home_calls<R: Print>(rt: &R, name: &str, p: ParkedPlate) -> io::Result<(
     let lengths = [1u32];
     let layers = [p.layer];
     let a = twillharbor_start_home(&points, &lengths, &layers, x, y);
-    print!(rt; "start home, ")?;
+    let _ = print!(rt; "start home, ");
     show(rt, name, &[a.number, a.place])?;
     let b = twillharbor_order_home(&points, &lengths, &layers, x, y, &mut [0; 2], &mut [0; 1]);
-    print!(rt; "order home, ")?;
+    let _ = print!(rt; "order home, ");
     show(rt, name, &[b.number, b.place, b.entries])?;
     let c = twillharbor_straight_home(&points, &lengths, &layers, x, y, &mut [0.0; 2], &mut [0; 1]);
-    print!(rt; "straight home, ")?;
+    let _ = print!(rt; "straight home, ");
     show(rt, name, &[c.number, c.place, c.points])?;
     let d = twillharbor_retrace_home(
         &points,
@@ -440,7 +442,7 @@ fn four_home_calls<R: Print>(rt: &R, name: &str, p: ParkedPlate) -> io::Result<(
         &mut [0; 5 + 8 + FIXED_WORK],
         &mut [0.0; 1],
     );
-    print!(rt; "retrace home, ")?;
+    let _ = print!(rt; "retrace home, ");
     show(rt, name, &numbers_of(d))
 }
 

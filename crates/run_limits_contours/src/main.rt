@@ -65,10 +65,11 @@ fn tell_drawn<R: Print>(
     if let [first, ..] = contours {
         if let [.., last] = contours {
             let same = in_place(drawn, path);
-            print!(rt; ", lengths {first} to {last}, {same} coordinates in place")?;
+            let _ = print!(rt; ", lengths {first} to {last}, {same} coordinates in place");
         }
     }
-    println!(rt; "")
+    let _ = println!(rt; "");
+    Ok(())
 }
 
 // The contours call with slices of these lengths.
@@ -105,7 +106,8 @@ fn recover<R: Print + AllocGlobal>(
     if r.number == 0 {
         tell_drawn(rt, r, points.as_slice(), lengths.as_slice(), h.path)
     } else {
-        println!(rt; "")
+        let _ = println!(rt; "");
+        Ok(())
     }
 }
 
@@ -354,7 +356,7 @@ fn last_mark<R: Print + AllocGlobal>(rt: &R, name: &str, kind: u32, r: u32) -> i
     let mut marks = marks_of(rt, MOST_POINTS, 0, CUT, 0, 1)?;
     set_last(marks.as_mut_slice(), kind, r);
     let two = Room { lengths: 2, ..ROOM };
-    print!(rt; "one contour of 65536, ")?;
+    let _ = print!(rt; "one contour of 65536, ");
     along_in_room(rt, name, marks.as_slice(), two)
 }
 
@@ -434,7 +436,7 @@ fn alike<R: Print + AllocGlobal>(rt: &R) -> io::Result<()> {
     let mut marks = marks_of(rt, 256, 256, JUMP, 512, 256)?;
     for (name, vertex) in [("0", 0u32), ("1", 1), ("256", 256), ("65280", 65280)] {
         set_last(marks.as_mut_slice(), JUMP, vertex);
-        print!(rt; "landings on 256, 512 and so on to 65280, then on ")?;
+        let _ = print!(rt; "landings on 256, 512 and so on to 65280, then on ");
         along_marks(rt, name, marks.as_slice())?;
     }
     let two = marks_of(rt, 2, HIGHEST_VERTEX - 1, JUMP, 2, 1)?;
@@ -494,7 +496,7 @@ fn back_steps_altered<R: Print + AllocGlobal>(
             lengths: 2,
             ..room
         };
-        print!(rt; "65535 back-steps, then kind {kind} with reference {reference}")?;
+        let _ = print!(rt; "65535 back-steps, then kind {kind} with reference {reference}");
         recover(rt, "", h, more)?;
     }
     Ok(())

@@ -54,7 +54,8 @@ fn check<R: Print + AllocGlobal>(
     let r = twillharbor_check_path(h.points, h.lengths, h.path, h.marks, lent.as_mut_slice());
     let lengths = [h.path.len(), h.marks.len(), work];
     tell(rt, name, &lengths, &[u64::from(r.number), r.place])?;
-    println!(rt; "")
+    let _ = println!(rt; "");
+    Ok(())
 }
 
 // A plate of one contour of two points, (ax, 0) and (0, by), whose path is the contour.
@@ -210,7 +211,7 @@ fn last_mark<R: Print + AllocGlobal>(rt: &R, name: &str, kind: u32, r: u32) -> i
     let mut marks = marks_of(rt, MOST_CONTOURS, JUMP, 1)?;
     set_last(marks.as_mut_slice(), kind, r);
     let h = drawn(points.as_slice(), &[1; MOST_CONTOURS], marks.as_slice());
-    print!(rt; "4096 contours of a point, ")?;
+    let _ = print!(rt; "4096 contours of a point, ");
     check(rt, name, h, 2 * MOST_CONTOURS)
 }
 

@@ -32,12 +32,12 @@ struct PlateSizes {
 
 // A recorded plate, and the lengths of the slices that its calls are lent.
 #[derive(Drop)]
-struct Recorded {
+struct RecordedPlate {
     plate: RowPlate,
     sizes: PlateSizes,
 }
 
-impl Recorded {
+impl RecordedPlate {
     // The start call's numbers stand here.
     fn start_agrees(&self, at: Place<'_>) -> bool {
         let (points, lengths, layers) = self.plate.slices();
@@ -68,8 +68,9 @@ impl Recorded {
                 twillharbor_order_home(points, lengths, layers, x, y, order, lent)
             }
         };
-        let same = at.after(3).unlike(entries.as_slice()) == 0;
-        Ok(at.unlike(&[r.number, r.place, r.entries]) == 0 && same)
+        let same = at.unlike(&[r.number, r.place, r.entries]) == 0
+            && at.after(3).unlike(entries.as_slice()) == 0;
+        Ok(same)
     }
 
     // The straight call's numbers and path stand here. Every element of the path lent is 100.
@@ -88,8 +89,9 @@ impl Recorded {
                 twillharbor_straight_home(points, lengths, layers, x, y, part, lent)
             }
         };
-        let same = at.after(3).unlike(path.as_slice()) == 0;
-        Ok(at.unlike(&[r.number, r.place, r.points]) == 0 && same)
+        let same = at.unlike(&[r.number, r.place, r.points]) == 0
+            && at.after(3).unlike(path.as_slice()) == 0;
+        Ok(same)
     }
 }
 
@@ -113,7 +115,7 @@ fn sized_row<'a>(
     let answers = parts.end;
     let plate = plate_at(alloc, parts, start)?;
     let fit = plate.fits;
-    let recorded = Recorded { plate, sizes: s };
+    let recorded = RecordedPlate { plate, sizes: s };
     let orders = answers.after(4);
     let lines = orders.after(3).after(s.order);
     let started = recorded.start_agrees(answers);

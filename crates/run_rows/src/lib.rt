@@ -8,7 +8,7 @@ ghost use Rattle.run_rows.specs.Starts.{start};
 use run_words::{Place, Recorded, WORD_BYTES};
 use std::alloc::{AllocError, Global};
 use std::io;
-use std::io::Read;
+use std::io::{ErrorKind, Read};
 
 // A row that was read: whether the call answers what it says, and the place behind it.
 #[derive(Clone, Copy, Debug, PartialEq, Eq)]
@@ -40,6 +40,7 @@ fn differing<F: Fn(Global, Place<'_>) -> Result<Option<RowOutcome<'_>>, AllocErr
 }
 
 // Replays standard input, a text of less than `room` bytes and at most `most` rows, and prints how many rows there were and how many differed.
+// No more than `room` bytes are read. A read that fails ends the text, and a line that cannot be written is lost: neither is an error of the run.
 pub fn replay<
     R: Input + Print + AllocGlobal,
     F: Fn(Global, Place<'_>) -> Result<Option<RowOutcome<'_>>, AllocError>,
@@ -47,17 +48,23 @@ pub fn replay<
     requires { F.IsAlwaysCallable row_at }
 {
     let mut text = Vec::new(rt.alloc());
-    rt.reader().read_to_end(&mut text)?;
+    if let Err(e) = rt.reader().take(room as u64).read_to_end(&mut text) {
+        if e.kind() == ErrorKind::OutOfMemory {
+            return Err(e);
+        }
+    }
     let head = Place {
         text: text.as_slice(),
         word: 0,
     };
     let rows = head.read();
     if room <= text.len() || most < rows {
-        return println!(rt; "no list");
+        let _ = println!(rt; "no list");
+        return Ok(());
     }
     let differ = differing(rt.alloc(), head.after(1), rows, row_at)?;
-    println!(rt; "{rows} rows, {differ} differ")
+    let _ = println!(rt; "{rows} rows, {differ} differ");
+    Ok(())
 }
 
 // What so many words say, from this place on.

@@ -41,6 +41,19 @@ fn parse(digits: &[u8]) -> u64
     value
 }
 
+// The word of this number. A function of its own, of a text and a number: a word that is asked for twice is then read once.
+#[tactic(auto, using(crate::proofs::Places::present, crate::proofs::Places::missing))]
+fn word_at(text: &[u8], number: usize) -> u64
+    ensures { result ≡ word text.now number }
+{
+    if number < text.len() / WORD_BYTES {
+        let first = WORD_BYTES * number;
+        parse(&text[first..first + 16])
+    } else {
+        NO_WORD
+    }
+}
+
 // What a word can be recorded for.
 pub trait Recorded: Copy {
     // what a word is taken as, and whether a value is what a word says
@@ -108,16 +121,10 @@ impl<'a> Place<'a> {
     }
 
     // The word that stands here.
-    #[tactic(auto, using(crate::proofs::Places::present, crate::proofs::Places::missing))]
     pub fn read(self) -> u64
         ensures { result ≡ word self.entry.text.now self.entry.word }
     {
-        if self.word < self.text.len() / WORD_BYTES {
-            let first = WORD_BYTES * self.word;
-            parse(&self.text[first..first + 16])
-        } else {
-            NO_WORD
-        }
+        word_at(self.text, self.word)
     }
 
     // Whether the text has as many words as stand before this place, and nothing behind them.
@@ -132,7 +139,7 @@ impl<'a> Place<'a> {
         ensures { xs.new ≡ words_as T.of_word self.entry.text.now self.entry.word (length xs.old) }
     {
         for (k, x) in xs.iter_mut().enumerate() {
-            *x = T::of_word(self.after(k).read());
+            *x = T::of_word(word_at(self.text, self.word.saturating_add(k)));
         }
     }
 
@@ -143,7 +150,7 @@ impl<'a> Place<'a> {
     {
         let mut differ: usize = 0;
         for (k, x) in xs.iter().enumerate() {
-            if !x.is_word(self.after(k).read()) {
+            if !x.is_word(word_at(self.text, self.word.saturating_add(k))) {
                 differ += 1;
             }
         }

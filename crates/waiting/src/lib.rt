@@ -23,14 +23,15 @@ use rules::{HIGHEST_LAYER, Vertex};
 use std::cmp::Ordering;
 use work_layout::Layout;
 
-// Each contour waits, unless it is empty.
+// Each contour waits, unless it is empty. By index: `copy_from_slice` would have the archive of the caches' run need `memmove` from outside.
 pub fn begin_waiting(lengths: &[u32], work: &mut [u32], lay: Layout)
     requires laid { Laid lay (length work.old) }
     requires contours { lay.contours ≡ length lengths.now }
     ensures { AllWait lengths.now lay work.old work.new }
 {
-    let end = lay.waiting + lay.contours;
-    work[lay.waiting..end].copy_from_slice(lengths);
+    for (j, &length) in lengths.iter().enumerate() {
+        work[lay.waiting + j] = length;
+    }
 }
 
 // Whether a contour waits.

@@ -3,20 +3,25 @@
 use super::excerpt;
 use crate::number;
 use crate::plate::Remark;
+use std::marker::PhantomData;
 use twillharbor::Point;
 
-pub struct Cursor<'a> {
-    pub text: &'a str,
-    pub at: usize,
-    /// The signs that end a word, as blanks do.
-    signs: &'static str,
+/// The signs that end a word, as blanks do.
+pub trait Signs {
+    fn has(sign: char) -> bool;
 }
 
-impl<'a> Cursor<'a> {
+pub struct Cursor<'a, S> {
+    pub text: &'a str,
+    pub at: usize,
+    signs: PhantomData<S>,
+}
+
+impl<'a, S: Signs> Cursor<'a, S> {
     /// Begins behind a byte order mark, if there is one.
-    pub fn new(text: &'a str, signs: &'static str) -> Self {
+    pub fn new(text: &'a str) -> Self {
         let at = if text.starts_with('\u{FEFF}') { '\u{FEFF}'.len_utf8() } else { 0 };
-        Self { text, at, signs }
+        Self { text, at, signs: PhantomData }
     }
 
     /// What is left of the text.
@@ -41,7 +46,7 @@ impl<'a> Cursor<'a> {
     /// What stands here, up to a blank or a sign.
     pub fn word(&self) -> &'a str {
         let rest = self.rest();
-        let is_end = |c: char| c.is_whitespace() || self.signs.contains(c);
+        let is_end = |c: char| c.is_whitespace() || S::has(c);
         &rest[..rest.find(is_end).unwrap_or(rest.len())]
     }
 

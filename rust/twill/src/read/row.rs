@@ -2,12 +2,18 @@
 //! colon, the path's points and their marks. Of the plate nothing is kept: its form alone is read.
 
 use super::Drawing;
-use super::cursor::Cursor;
+use super::cursor::{Cursor, Signs};
 use crate::plate::Remark;
 use twillharbor::{HIGHEST_LAYER, Point};
 
 /// What ends a word, beside blanks.
-const SIGNS: &str = ",()|:;";
+struct Ends;
+
+impl Signs for Ends {
+    fn has(sign: char) -> bool {
+        matches!(sign, ',' | '(' | ')' | '|' | ':' | ';')
+    }
+}
 
 /// Whether a text, from its first character that is not blank, is a row: no path point of the text
 /// form begins so.
@@ -16,7 +22,7 @@ pub fn is_one(content: &str) -> bool {
 }
 
 pub fn read(text: &str) -> Result<Drawing, Remark> {
-    let mut reader = Reader { cursor: Cursor::new(text, SIGNS), drawing: Drawing::default() };
+    let mut reader = Reader { cursor: Cursor::new(text), drawing: Drawing::default() };
     reader.skip_lines();
     reader.plate()?;
     reader.path()?;
@@ -28,7 +34,7 @@ pub fn read(text: &str) -> Result<Drawing, Remark> {
 }
 
 struct Reader<'a> {
-    cursor: Cursor<'a>,
+    cursor: Cursor<'a, Ends>,
     drawing: Drawing,
 }
 

@@ -5,15 +5,21 @@
 //! `start outside` or `start home X Y` give the plate's size and strategy, `layer N` the layer of
 //! the contours from there on, and `#` begins a comment.
 
-use super::cursor::Cursor;
+use super::cursor::{Cursor, Signs};
 use crate::plate::{Layer, Plate, Remark};
 use twillharbor::{HIGHEST_LAYER, Point, StartPointStrategy};
 
 /// What ends a word, beside blanks.
-const SIGNS: &str = ",()|#";
+struct Ends;
+
+impl Signs for Ends {
+    fn has(sign: char) -> bool {
+        matches!(sign, ',' | '(' | ')' | '|' | '#')
+    }
+}
 
 pub fn read(text: &str) -> Result<Plate, Remark> {
-    let cursor = Cursor::new(text, SIGNS);
+    let cursor = Cursor::new(text);
     let mut reader = Reader { cursor, plate: Plate::default(), apart: true };
     while reader.cursor.at < text.len() {
         reader.line()?;
@@ -22,7 +28,7 @@ pub fn read(text: &str) -> Result<Plate, Remark> {
 }
 
 struct Reader<'a> {
-    cursor: Cursor<'a>,
+    cursor: Cursor<'a, Ends>,
     plate: Plate,
     /// Whether the next point begins a contour.
     apart: bool,
